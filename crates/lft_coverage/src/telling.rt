@@ -1,6 +1,6 @@
 //! What was exercised, for people.
 
-ghost use Rattle.std.specs.Prelude.{◌≡◌, ◌++◌, ℕ, List, OnOk, decimal, length, string_bytes};
+ghost use Rattle.std.specs.Prelude.{◌≡◌, ◌++◌, ℕ, List, OnOk, decimal, string_bytes};
 ghost use Rattle.lft_graph.specs.Graph.{IsGraphOf};
 ghost use Rattle.lft_coverage.specs.{inner.Facts.HasCounts, Sums.{TellsSums, share_words, sum_line}};
 

@@ -1,6 +1,6 @@
 //! Which channels of banks and multiports are joined, by number.
 
-ghost use Rattle.std.specs.Prelude.{◌≡◌, ℕ, ◌*◌, ◌<◌, Some, slice_get};
+ghost use Rattle.std.specs.Prelude.{◌≡◌, ◌*◌, ◌<◌, Some, slice_get};
 ghost use Rattle.lft_elaborate.specs.inner.Channels.Channels.{places, joined, left_channel};
 
 /// How many channels are joined where there are so many on each side.

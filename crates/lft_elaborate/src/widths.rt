@@ -1,6 +1,6 @@
 //! Widths of ports and banks in a setting.
 
-ghost use Rattle.std.specs.Prelude.{◌≡◌, ◌≤◌, ◌↔◌, ℕ, Some, IfErr, IfOk, IfSome, IsSome, OnOk, is_some, option_and_then};
+ghost use Rattle.std.specs.Prelude.{◌≡◌, ◌≤◌, ◌↔◌, Some, IfErr, IfOk, IfSome, IsSome, OnOk, is_some, option_and_then};
 ghost use Rattle.lft_elaborate.specs.inner.Noted.{GoesOn, GoesOnIf, AreMade, table};
 ghost use Rattle.lft_elaborate.specs.inner.Places.{AreMany, HasPlaces, HasWidth, IsCount, IsSum, IsMany, IsWidth, parameter_in, plus, capped_product};
 ghost use Rattle.lft_elaborate.specs.inner.{Refused.{IfRefused, IsOfWord}, Settings.setting_at, Widths.{member_at, width_at, found_width}, Values.Valued};

@@ -1,5 +1,5 @@
 -- Which reaction is named of those that hadn't ended at a start.
-use Rattle.std.proofs.Common.{◌≡◌, ◌⊎◌, inl, inr, ℕ, ◌<◌, ◌≤◌, List, length, take, sym, ap, ◌∙◌, arith, Option, Some, slice_get}
+use Rattle.std.proofs.Common.{◌≡◌, ◌⊎◌, inl, inr, ℕ, ◌<◌, ◌≤◌, List, take, sym, ap, ◌∙◌, arith, Option, slice_get}
 use native.Mathlib.Decide.{ℕ_discrete, dec_lt}
 use Rattle.lft_lists.proofs.Places.{Some_same}
 use Rattle.lft_tag.specs.declared.Tag.{Tag}

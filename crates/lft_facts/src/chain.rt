@@ -1,6 +1,6 @@
 //! The steps by which one reaction precedes another.
 
-ghost use Rattle.std.specs.Prelude.{◌≡◌, ◌<◌, ◌⊎◌, ℕ, Some, length, IfOk};
+ghost use Rattle.std.specs.Prelude.{◌<◌, ◌⊎◌, Some, length, IfOk};
 ghost use Rattle.std.specs.Prelude.{List};
 ghost use Rattle.lft_graph.specs.{Graph.IsGraphOf, Before.{IsDeclaredJustBefore, FeedsLast}};
 ghost use Rattle.lft_facts.specs.{Facts.{IsFact, AreFacts}, inner.{Enough.GivesDirect, Ways.{AreWays, IsMarked}}, Enough.{GivesChain, IsOwn, AreOwn}};

@@ -1,6 +1,6 @@
 //! Rule 6: two causes of one event.
 
-ghost use Rattle.std.specs.Prelude.{◌≡◌, ◌≤◌, ◌<◌, None, length, IfOk, IfSome, IfNone};
+ghost use Rattle.std.specs.Prelude.{◌≤◌, ◌<◌, None, length, IfOk, IfSome, IfNone};
 ghost use Rattle.lft_ir.specs.Steps.Fits.{RowsFit};
 ghost use Rattle.lft_model.specs.Presence.{PortClash, Collision, events_of};
 ghost use Rattle.lft_rows.specs.inner.Presence.Causes.{AreCauses};

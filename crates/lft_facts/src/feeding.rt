@@ -1,6 +1,6 @@
 //! Which port leads from one reaction to another at once.
 
-ghost use Rattle.std.specs.Prelude.{◌≡◌, ◌↔◌, ◌<◌, ℕ, Some, length, Contains, IfSome, IfNone, IsTrue};
+ghost use Rattle.std.specs.Prelude.{◌≡◌, ◌↔◌, ◌<◌, Some, length, Contains, IfSome, IfNone, IsTrue};
 ghost use Rattle.lft_ir.specs.{Sound.IsNameOf, declared.parts.Name.TheVariants.Port as ThePort};
 ghost use Rattle.lft_graph.specs.Precedence.{Feeds};
 ghost use Rattle.lft_facts.specs.{Facts.FeedsBy, inner.Ways.IsFedUndelayed};

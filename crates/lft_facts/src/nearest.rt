@@ -1,6 +1,6 @@
 //! The nearest events of a port or an action.
 
-ghost use Rattle.std.specs.Prelude.{◌≡◌, IfSome};
+ghost use Rattle.std.specs.Prelude.{IfSome};
 ghost use Rattle.lft_ir.specs.{Sound.IsNameOf, declared.parts.Trigger.TheVariants.On as TheName, Steps.Fits.RowsFit};
 ghost use Rattle.lft_rows.specs.inner.Presence.Causes.{AreCauses};
 ghost use Rattle.lft_facts.specs.{Reasons.IsNearest, inner.Causes.StandsForName};

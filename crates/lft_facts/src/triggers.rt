@@ -1,6 +1,6 @@
 //! Rules 7 and 8: a reaction that is triggered and has no run, and a run that isn't triggered.
 
-ghost use Rattle.std.specs.Prelude.{◌≡◌, ◌<◌, ◌≤◌, Some, length, IfOk};
+ghost use Rattle.std.specs.Prelude.{◌<◌, ◌≤◌, Some, length, IfOk};
 ghost use Rattle.lft_ir.specs.Steps.Fits.{RowsFit};
 ghost use Rattle.lft_model.specs.{Presence.Triggered, Runs.Ran};
 ghost use Rattle.lft_rows.specs.inner.Presence.Causes.{AreCauses};

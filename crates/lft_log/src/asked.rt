@@ -1,7 +1,6 @@
 //! Up to where rows are asked for.
 
 ghost use Rattle.std.specs.Prelude.{◌≡◌, ◌<◌, ◌++◌, ◌∷◌, List, [], length, take, drop, false, IfSome, IfNone, IsTrue, Some};
-ghost use Rattle.lft_tag.specs.Tags.{Before};
 ghost use Rattle.lft_ir.specs.declared.steps.row.Row.{Row as TheRow};
 ghost use Rattle.lft_log.specs.{Told.{AreAll, IsPastEnd, KeepTo}, inner.Told.IsAskedOf};
 

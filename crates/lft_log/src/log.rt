@@ -1,13 +1,13 @@
 //! A log: a trace table that comes in pieces, with lines of external inputs among its rows.
 
-ghost use Rattle.std.specs.Prelude.{◌≡◌, Bool, ◌+◌, ◌++◌, ◌∷◌, ◌^◌, ◌≤◌, ℕ, List, [], Option, true, false, length, IfOk, IfErr, IfNone, IfSome, IsTrue, MatchOption};
+ghost use Rattle.std.specs.Prelude.{◌≡◌, Bool, ◌+◌, ◌++◌, ◌^◌, ◌≤◌, ℕ, List, [], Option, true, false, length, IfOk, IfErr, IfNone, IfSome, IsTrue, MatchOption};
 ghost use Rattle.lft_tag.specs.declared.Tag.{Tag as TheTag};
 ghost use Rattle.lft_tables.specs.Parts.{EndsLine};
 ghost use Rattle.lft_ir.specs.declared.steps.row.Row.{Row as TheRow};
 ghost use Rattle.lft_model.specs.{Fitting.EachFits, Plans.PlanParts};
 ghost use Rattle.lft_monitor.specs.{inner.Follows.{HasGonePast, IsFollowerOf, next_of}, Follows.{IsJudged, IsQuiet}};
 ghost use Rattle.lft_log.specs.Logs.{AreLines, BeginsLong, HasNoEnd, IsHead};
-ghost use Rattle.lft_log.specs.Told.{AreAll, AreOpenAtEnd, AreOpenIn, IsEnded, IsFaultAtEnd, IsFaultOf, IsFinal, IsSaid, IsSoon, KeepTo, TellsOpen};
+ghost use Rattle.lft_log.specs.Told.{AreAll, AreOpenIn, IsEnded, IsFaultAtEnd, IsFaultOf, IsFinal, IsSaid, IsSoon, KeepTo, TellsOpen};
 ghost use Rattle.lft_log.specs.inner.Told.{IsAskedOf, IsBegun, IsFaultOfRows, IsLog, IsLogOf};
 
 use crate::asked::Asked;

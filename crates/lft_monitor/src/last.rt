@@ -1,6 +1,6 @@
 //! Rows at the tag of the last one.
 
-ghost use Rattle.std.specs.Prelude.{◌≤◌, List, length, IsTrue};
+ghost use Rattle.std.specs.Prelude.{◌≤◌, length, IsTrue};
 ghost use Rattle.lft_tag.specs.declared.Tag.{Tag as TheTag};
 ghost use Rattle.lft_rows.specs.inner.Slices.{Rises};
 ghost use Rattle.lft_queue.specs.Coming.AtTag.{AreAt};

@@ -1,5 +1,5 @@
 -- Two maps of one list that are the same so far.
-use Rattle.std.proofs.Common.{◌≡◌, ℕ, zero, suc, ◌+◌, List, [], ◌∷◌, ◌++◌, map, sym, ap, ◌∙◌, Some, slice_get}
+use Rattle.std.proofs.Common.{◌≡◌, ℕ, zero, suc, List, [], ◌∷◌, map, sym, ap, ◌∙◌, Some, slice_get}
 
 -- equal maps of equal lengths have equal items
 pub map_get : {X Y : Type 0} (f h : X → Y) (xs : List X) (i : ℕ) (x : X) → map f xs ≡ map h xs → slice_get xs i ≡ Some x → f x ≡ h x

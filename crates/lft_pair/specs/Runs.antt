@@ -1,5 +1,5 @@
 -- The rows of one run, and what it answered in which of them.
-use Rattle.std.specs.Prelude.{◌≡◌, ℕ, List, Option, Some, None, filter_map, slice_get, option_map}
+use Rattle.std.specs.Prelude.{ℕ, List, Option, Some, None, filter_map, slice_get, option_map}
 use Rattle.std.specs.List.{enumerate_from, last_or}
 use Rattle.lft_tag.specs.declared.Tag.{Tag}
 use Rattle.lft_ir.specs.declared.{parts.Value.Value, steps.row.{Row.Row, Step.{Step, TheVariants.{Start, Read, Write, Schedule, Stop, End}}}}

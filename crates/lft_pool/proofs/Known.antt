@@ -1,5 +1,5 @@
 -- What is known of a recording's runs and of the names of its program.
-use Rattle.std.proofs.Common.{◌≡◌, ℕ, ◌<◌, ◌⊎◌, List, [], ◌∷◌, length, refl, ap, ◌∙◌, subst, arith, Option, Some, slice_get, ℤ}
+use Rattle.std.proofs.Common.{◌≡◌, ℕ, ◌<◌, List, [], length, refl, ap, ◌∙◌, subst, arith, Option, Some, slice_get, ℤ}
 use Rattle.lft_tag.specs.declared.Tag.{Tag}
 use Rattle.lft_ir.specs.declared.{parts.Value.Value, steps.row.Row.Row}
 use Rattle.lft_model.specs.{Plans.{PlanParts, IsSoundPlan}, Runs.{Run, Ran, end_row, by_ends}, Breaches.Legal, OneWorker.HasRun, Recorded.SoFar}

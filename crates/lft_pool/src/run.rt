@@ -1,6 +1,6 @@
 //! Many workers over one book.
 
-ghost use Rattle.std.specs.Prelude.{◌≡◌, ◌≢◌, ◌↔◌, ◌⊎◌, ◌≤◌, [], length, IfOk, IfErr, IfNone, IfSome, true, false, Some, None, is_ok};
+ghost use Rattle.std.specs.Prelude.{◌≡◌, ◌≢◌, ◌⊎◌, ◌≤◌, [], length, IfOk, IfErr, IfNone, IfSome, true, false, Some, None, is_ok};
 ghost use Rattle.lft_model.specs.{Breaches.Legal, Workers.IsWorkers};
 ghost use Rattle.lft_scheduler.specs.Starts.{SomethingLeft, started_count};
 ghost use Rattle.lft_pool.specs.{Books.{IsRecording, LacksBody}, Begun.MatchBegin, inner.Endings.ReasonIs, Endings.WhyStopped};

@@ -1,5 +1,5 @@
 -- A record has one card, or a fault of its own, and not both.
-use Rattle.std.proofs.Common.{◌≡◌, ◌≢◌, ◌∙◌, ◌⊎◌, inl, inr, ℕ, List, [], length, get_or, true, false, Some, refl, sym, ap, ◌&&◌, ◌||◌}
+use Rattle.std.proofs.Common.{◌≡◌, ◌≢◌, ◌∙◌, inl, inr, ℕ, List, [], length, get_or, true, false, Some, refl, sym, ap}
 use Rattle.std.specs.Prelude.{codes, if◌then◌else◌}
 use Rattle.std.specs.Str.{bytes_eq}
 use Rattle.lft_ir.specs.{Names.IsNamed, Parts.Parts, Sound.IsSound}

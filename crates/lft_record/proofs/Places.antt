@@ -1,5 +1,5 @@
 -- Where a name stands among the inputs of a reaction.
-use Rattle.std.proofs.Common.{◌≡◌, ◌≢◌, ◌∙◌, ◌⊎◌, inl, inr, ◌+◌, ◌<◌, ◌≤◌, ℕ, zero, suc, List, [], ◌∷◌, ◌++◌, length, take, filter_map, Some, None, slice_get, refl, sym, subst, arith, append-nil, length-append}
+use Rattle.std.proofs.Common.{◌≡◌, ◌∙◌, inl, inr, ◌+◌, ◌<◌, ◌≤◌, ℕ, zero, suc, List, [], ◌∷◌, ◌++◌, length, take, filter_map, Some, None, slice_get, refl, sym, subst, arith, append-nil, length-append}
 use Rattle.lft_lists.proofs.Picked.{kept_more}
 use Rattle.std.proofs.lemmas.{Bool.cases_lt, List.take_all, Option.slice_get_within}
 use Rattle.lft_ir.specs.{Parts.inputs, Naming.named}

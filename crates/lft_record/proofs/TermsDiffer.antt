@@ -1,5 +1,5 @@
 -- A text spells one term, and one expression.
-use Rattle.std.proofs.Common.{◌≡◌, ◌≢◌, ◌∙◌, ◌⊎◌, inl, inr, ◌<◌, ℕ, zero, suc, List, [], ◌∷◌, length, Some, get_or, refl, sym, ap, arith}
+use Rattle.std.proofs.Common.{◌≡◌, ◌≢◌, ◌∙◌, inl, inr, ◌<◌, ℕ, zero, suc, List, [], ◌∷◌, length, Some, get_or, refl, sym, ap, arith}
 use Rattle.std.specs.Prelude.{codes, slice_get, AllPairs}
 use Rattle.std.{specs.List.AllZip, proofs.lemmas.{Bool.cases_lt, Option.{get_or_from_slice_get, slice_get_within}}}
 use Rattle.lft_ir.specs.{Names.AreDistinct, Parts.{Parts, inputs}, Sound.IsSound, declared.parts.{Name.Name, Value.TheVariants.Int}}

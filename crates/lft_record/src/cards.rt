@@ -1,6 +1,6 @@
 //! The cards of a program, gathered by reaction.
 
-ghost use Rattle.std.specs.Prelude.{◌≡◌, ◌≢◌, ◌<◌, length, slice_get, Some, None, true, false, not, IfOk, IfSome, IfNone, All};
+ghost use Rattle.std.specs.Prelude.{◌≡◌, ◌<◌, length, slice_get, Some, None, true, false, not, IfOk, IfSome, IfNone, All};
 ghost use Rattle.lft_record.specs.{inner.Scripts.{Adds, is_taken, with_entry}, Scripts.{bodies_at, blank}};
 
 mod answer;

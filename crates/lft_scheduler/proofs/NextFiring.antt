@@ -1,5 +1,5 @@
 -- The first firing of a timer after a tag.
-use Rattle.std.proofs.Common.{◌≡◌, ℕ, suc, ◌+◌, ◌-◌, ◌*◌, ◌/◌, ◌%◌, ◌<◌, ◌≤◌, inl, inr, refl, ◌∙◌, arith}
+use Rattle.std.proofs.Common.{◌≡◌, ℕ, suc, ◌+◌, ◌-◌, ◌*◌, ◌/◌, ◌%◌, ◌<◌, ◌≤◌, inl, inr, refl, arith}
 use Rattle.std.proofs.{lemmas.Nat.div-add-mod', Math.Nat.{mod-lt, mul-le-mul_right, suc-mul}}
 use native.Mathlib.Decide.{dec_lt}
 use Rattle.lft_tag.{specs.{declared.Tag.Tag, Tags.{Before, UpTo}}, proofs.Chains.tag_of}

@@ -1,6 +1,6 @@
 //! The stop after the steps of a run.
 
-ghost use Rattle.std.specs.Prelude.{◌≡◌, ◌≤◌, ◌↔◌, ◌++◌, ◌⊎◌, ℕ, List, IsTrue};
+ghost use Rattle.std.specs.Prelude.{◌≡◌, ◌≤◌, ◌↔◌, ◌++◌, ℕ, List, IsTrue};
 ghost use Rattle.lft_tag.specs.Tags.{IsRecorded};
 ghost use Rattle.lft_ir.specs.declared.steps.row.Row.{Row as RowOf};
 ghost use Rattle.lft_model.specs.{Plans.PlanParts, Presence.stop as the_stop, Recorded.committed_rows};

@@ -1,6 +1,6 @@
 //! When the triggers of each reaction are due.
 
-ghost use Rattle.std.specs.Prelude.{◌≡◌, ℕ, List, [], ◌<◌, ◌≤◌, length, filter_map, Some, IfOk, IfSome, IsTrue, slice_get};
+ghost use Rattle.std.specs.Prelude.{◌≡◌, ℕ, List, [], ◌<◌, length, filter_map, Some, IfOk, IfSome, IsTrue, slice_get};
 ghost use Rattle.lft_ir.specs.{Sound.IsTriggerOf, declared.{parts.Trigger.Trigger as TheTrigger, steps.row.Row.Row as TheRow}};
 ghost use Rattle.lft_model.specs.{Presence.{stop, Triggered}, Runs.Ran};
 ghost use Rattle.lft_stream.specs.declared.due.Due.{Due as TheDue};

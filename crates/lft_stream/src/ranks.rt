@@ -1,6 +1,6 @@
 //! Whether runs follow each other by the levels of their reactions.
 
-ghost use Rattle.std.specs.Prelude.{ℕ, ◌≡◌, IsTrue};
+ghost use Rattle.std.specs.Prelude.{IsTrue};
 ghost use Rattle.lft_ir.specs.Steps.Fits.{RowsFit};
 ghost use Rattle.lft_stream.specs.inner.Ordered.{IsOrdered};
 

@@ -1,5 +1,5 @@
 -- Records that were read before they are asked for.
-use Rattle.std.proofs.Common.{◌≡◌, ◌∙◌, ◌+◌, ◌<◌, ◌∷◌, ◌++◌, ℕ, suc, [], List, Option, length, map, take, drop, get_or, sym, ap, arith}
+use Rattle.std.proofs.Common.{◌≡◌, ◌∙◌, ◌+◌, ◌<◌, ◌∷◌, ◌++◌, ℕ, suc, [], List, Option, length, map, take, get_or, sym, ap, arith}
 use Rattle.std.proofs.lemmas.List.{append_assoc, drop_more, get_or-take, length-take-le, map-append}
 use Rattle.csv.specs.{Records.fields_of, declared.record.ByteRecord.ByteRecord}
 use Rattle.lft_tables.specs.{inner.Records.{IsPlain, records_left, unread_unless}, declared.records.Records.Records}

@@ -1,5 +1,5 @@
 -- What the records of a text tell is what those of its parts tell, one part after another.
-use Rattle.std.proofs.Common.{◌≡◌, ◌∙◌, ◌++◌, ◌∷◌, ◌⊎◌, inl, inr, ℕ, zero, suc, List, [], Option, Some, IfSome, Bool, true, false, refl, sym, ap, subst}
+use Rattle.std.proofs.Common.{◌≡◌, ◌∙◌, ◌++◌, ◌∷◌, inl, inr, ℕ, zero, suc, List, [], Option, Some, IfSome, Bool, true, false, refl, sym, ap, subst}
 use Rattle.std.specs.Prelude.{◌==◌, ◌&&◌, not}
 use Rattle.std.{specs.List.{AllZip, list_all}, proofs.lemmas.{Bool.false≢true, List.append-nil}}
 use Rattle.csv.specs.{Machine.next_record, Reading.{records_from, strip_bom}}

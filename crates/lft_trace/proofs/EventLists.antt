@@ -4,7 +4,6 @@ use Rattle.std.proofs.Math.{ListN.get_or-append, Seq.get_or-append_seam}
 use Rattle.std.proofs.lemmas.{Bool.cases_lt, List.{get_or-take, get_or_default, length-append, length-take-le, take_more, Sorted.IsPermutation-push_more}}
 use Rattle.std.proofs.lemmas.Option.{get_or_from_slice_get, slice_get-get_or, slice_get_within}
 use Rattle.std.specs.List.Sorted.{IsPermutation}
-use Rattle.lft_tag.proofs.Order.{Before-trans}
 use Rattle.lft_trace.{specs.ExternalTables.{Clash, Has}, proofs.{Ascending.not_itself, Members.has_permuted_back}}
 use Rattle.lft_ir.{specs.{Steps.Inputs.{ComesBefore, InOrder}, declared.steps.externals.Event.Event}, proofs.StepsLemmas.Placing.comes_before-trans}
 

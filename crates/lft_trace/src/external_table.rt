@@ -1,6 +1,6 @@
 //! External inputs as tables.
 
-ghost use Rattle.std.specs.Prelude.{◌≡◌, ◌≢◌, ◌+◌, ◌∷◌, ℕ, List, [], IfOk, IfErr, IsTrue, ◌↔◌, true, false, not, ◌&&◌, ◌||◌, Some, None, IfSome};
+ghost use Rattle.std.specs.Prelude.{◌≡◌, ◌+◌, ◌∷◌, List, [], IfOk, IfErr, IsTrue, ◌↔◌, true, false, Some, None, IfSome};
 ghost use Rattle.csv.specs.Records.{fields_of};
 ghost use Rattle.lft_trace.specs.{ExternalTables.{ExternalTable, ExternalFails, FaultAt, IsEntry, IsOfKind, header}, Faults.is_told, Numbers.value};
 ghost use Rattle.lft_trace.specs.inner.SeenExternals.{FieldFault, Keeps, Refuses, external_fields};

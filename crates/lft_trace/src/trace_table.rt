@@ -1,6 +1,6 @@
 //! Traces as tables.
 
-ghost use Rattle.std.specs.Prelude.{◌≡◌, ◌≢◌, ◌+◌, ◌<◌, ◌∷◌, ℕ, List, [], length, IfSome, IfNone, IfOk, IfErr, IsTrue, ◌↔◌, true, false, is_some, not, ◌||◌, Some};
+ghost use Rattle.std.specs.Prelude.{◌≡◌, ◌+◌, ◌<◌, ◌∷◌, List, [], length, IfSome, IfNone, IfOk, IfErr, IsTrue, ◌↔◌, true, false, is_some, not, ◌||◌, Some};
 ghost use Rattle.csv.specs.Records.{fields_of};
 ghost use Rattle.lft_trace.specs.{Numbers.{number_or_zero, value}, Faults.is_told};
 ghost use Rattle.lft_trace.specs.Traces.{Table, TraceFails, header, FaultAt, IsRow, IsThing, RowOf, has_delay, has_name, has_numbers, word};

@@ -39,11 +39,11 @@ struct Prefix<'a> {
 }
 
 impl Trial for Prefix<'_> {
-    ghost use Rattle.lft_whole_driver.specs.inner.Could.{CanStand};
+    ghost use Rattle.lft_whole_driver.specs.inner.Could.{CanStandLast};
 
     ghost is_sound = { λ front. Unit {0} };
 
-    ghost stands = { λ front candidate. CanStand front.text.now front.token candidate };
+    ghost stands = { λ front candidate. CanStandLast front.text.now front.token candidate };
 
     fn can_stand(&self, candidate: Candidate) -> Result<bool, NoMemory> {
         // A try reads the front anew, however long it is.

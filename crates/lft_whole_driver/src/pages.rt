@@ -1,6 +1,6 @@
 //! The files of a program as one text, so that what is told of a program is told of all of them.
 
-ghost use Rattle.std.specs.Prelude.{◌≡◌, ◌+◌, ◌≤◌, ◌<◌, ◌^◌, IfOk, OnOk, length};
+ghost use Rattle.std.specs.Prelude.{◌≡◌, ◌+◌, ◌<◌, ◌^◌, IfOk, OnOk, length};
 ghost use Rattle.lft_whole.specs.inner.Tokens.{AreTokens};
 ghost use Rattle.lft_whole_parser.specs.Imports.{Files.AreOfTexts, Reads.HasTree};
 ghost use Rattle.lft_whole_driver.specs.{Pages.{AreJoined, token_moved as moved_token}, inner.Pages.{JoinsFile, JoinsTokens}};

@@ -4,7 +4,6 @@ ghost use Rattle.std.specs.Prelude.{◌≡◌, ◌-◌, IfOk, Some, slice_get, s
 ghost use Rattle.lft_whole_parser.specs.Imports.Files.{AreOfTexts};
 ghost use Rattle.lft_program.specs.inner.Refusals.{Tells, cause_of};
 ghost use Rattle.lft_whole.specs.Sources.Causes.{names, number_of};
-ghost use Rattle.lft_tree.specs.View.{tree_view};
 ghost use Rattle.lft_whole_driver.specs.Told.{IsSentence, IsToldTree, IsUnexpected, TellsAt, TellsRefusal, TellsTree, where_words as words_where};
 ghost use Rattle.lft_whole_driver.specs.inner.Told.{IsTold};
 ghost use Rattle.lft_load.specs.declared.fault.Detail.TheVariants as detail;
@@ -23,7 +22,7 @@ use lft_text_diagnostics::words::push_way;
 use lft_text_diagnostics::{Diagnostic, TOO_SOON, push_standing, way_at};
 use lft_tree::Ast;
 use lft_whole::sources::{FileRefusal, NoProgram, Place, SourceFile, Why, push_place};
-use lft_whole::{TextFault, TokenKind, lex};
+use lft_whole::{TextFault, Token, TokenKind, lex};
 use std::alloc::{AllocError, Global};
 
 /// Why a program isn't lowered: its fault, and what is told of it for people. Where memory is refused, or the
@@ -104,20 +103,22 @@ fn fault_of(refusal: FileRefusal, words: String) -> Fault
     }
 }
 
-/// The bytes of a token of a file, or its end. Of a text without tokens the byte that shows it.
-fn spot_in(alloc: Global, file: &SourceFile, token: usize) -> Result<Span, NoMemory> {
+/// A token of a file. Behind the last one it has no bytes, and in a text without tokens the byte that shows it.
+fn token_in(alloc: Global, file: &SourceFile, token: usize) -> Result<Token, NoMemory> {
     let end = file.text.len();
     // Read into tokens once more: a file keeps lines and columns, no bytes,
     // and a refused one alone is asked for these.
     match lex(alloc, &file.text) {
         Ok(tokens) => match tokens.as_slice().get(token) {
-            Some(token) => Ok(Span {
-                start: token.start,
-                end: token.end,
+            Some(token) => Ok(*token),
+            None => Ok(Token {
+                kind: TokenKind::Name,
+                start: end,
+                end,
             }),
-            None => Ok(Span { start: end, end }),
         },
-        Err(TextFault::BadText(at)) => Ok(Span {
+        Err(TextFault::BadText(at)) => Ok(Token {
+            kind: TokenKind::Name,
             start: at,
             end: end.min(at.saturating_add(1)),
         }),
@@ -125,28 +126,26 @@ fn spot_in(alloc: Global, file: &SourceFile, token: usize) -> Result<Span, NoMem
     }
 }
 
-/// The kind of a token, as far as it matters for what the token is called.
-fn kind_of(bytes: &[u8]) -> TokenKind {
-    if bytes.starts_with(b"{=") {
-        TokenKind::Code
-    } else if bytes.starts_with(b"\"") || bytes.starts_with(b"'") {
-        TokenKind::Text
-    } else {
-        TokenKind::Name
-    }
+/// The bytes of such a token.
+fn spot_in(alloc: Global, file: &SourceFile, token: usize) -> Result<Span, NoMemory> {
+    let token = token_in(alloc, file, token)?;
+    Ok(Span {
+        start: token.start,
+        end: token.end,
+    })
 }
 
 /// What is said of a token that can't stand where it is, or of a text that ends there.
 fn unexpected_words(alloc: Global, file: &SourceFile, token: usize) -> Result<String, NoMemory>
     ensures { IfOk result (λ words. IsUnexpected (string_bytes words)) }
 {
-    let spot = spot_in(alloc, file, token)?;
-    let bytes = file.text.get(spot.start..spot.end).unwrap_or(b"");
+    let token = token_in(alloc, file, token)?;
+    let bytes = file.text.get(token.start..token.end).unwrap_or(b"");
     let mut out = String::new(alloc);
     if bytes.is_empty() {
         out.push_str(TOO_SOON)?;
     } else {
-        push_standing(alloc, &mut out, kind_of(bytes), bytes)?;
+        push_standing(alloc, &mut out, token.kind, bytes)?;
     }
     Ok(out)
 }

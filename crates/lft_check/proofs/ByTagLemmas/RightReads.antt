@@ -1,5 +1,5 @@
 -- Whether a run read its inputs, one after another.
-use Rattle.std.proofs.Common.{◌≡◌, ℕ, ◌+◌, ◌<◌, ◌≤◌, ◌⊎◌, inl, inr, List, [], ◌∷◌, length, refl, sym, ap, ◌∙◌, subst, arith, Bool, true, false, ◌↔◌, Option, Some, None, IfSome, IfNone, slice_get, filter_map, map, unwrap_or, option_map, not}
+use Rattle.std.proofs.Common.{◌≡◌, ℕ, ◌≤◌, inl, inr, List, [], ◌∷◌, length, refl, sym, ap, ◌∙◌, subst, arith, Bool, true, false, ◌↔◌, Option, Some, None, IfSome, IfNone, slice_get, filter_map, map, unwrap_or, option_map, not}
 use Rattle.std.specs.List.{last_or, AllZip}
 use Rattle.lft_ir.proofs.{Origins.origin_unique, Naming.input_known}
 use Rattle.lft_ir.specs.{Parts.{Parts, inputs}, Sound.{IsSound, IsNameOf}}

@@ -1,5 +1,5 @@
 -- A tag among ascending ones, and the marks of those at which a reaction is triggered.
-use Rattle.std.proofs.Common.{◌≡◌, ℕ, ◌+◌, ◌<◌, ◌≤◌, ◌⊎◌, List, length, sym, ap, ◌∙◌, subst, Bool, true, Some, slice_get, slice_set}
+use Rattle.std.proofs.Common.{◌≡◌, ℕ, ◌<◌, ◌≤◌, List, length, sym, ap, ◌∙◌, subst, Bool, true, Some, slice_get, slice_set}
 use native.Mathlib.Decide.{ℕ_discrete}
 use Rattle.lft_tag.specs.{declared.Tag.Tag, Tags.{Before, UpTo}}
 use Rattle.lft_lists.proofs.Places.{same_at, get_unwritten}

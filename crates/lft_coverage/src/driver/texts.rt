@@ -1,12 +1,12 @@
 //! The verdict on a trace table, and what an accepted trace exercised, written.
 
-ghost use Rattle.std.specs.Prelude.{◌≡◌, ◌≢◌, ◌++◌, ℕ, true, List, IfErr, IfOk, OnOk, length, string_bytes};
+ghost use Rattle.std.specs.Prelude.{◌≡◌, ◌≢◌, ◌++◌, ℕ, true, List, IfErr, IfOk, OnOk, string_bytes};
 ghost use Rattle.std.specs.Io.KnownBytes.{Keeps};
 ghost use Rattle.lft_ir.specs.declared.steps.row.Row.{Row as TheRow};
 ghost use Rattle.lft_tables.specs.Records.{records_of};
 ghost use Rattle.lft_trace.specs.Traces.{Table};
 ghost use Rattle.lft_model.specs.Workers.{IsWorkers};
-ghost use Rattle.lft_coverage.specs.{inner.{Facts.HasCounts, Driver.Covered.{IsCoverText, IsCovered, verdict_in}}, Facts.fact_lines, Sums.TellsSums};
+ghost use Rattle.lft_coverage.specs.{inner.{Facts.HasCounts, Driver.Covered.{IsCoverText, IsCovered}}, Facts.fact_lines, Sums.TellsSums};
 ghost use Rattle.lft_coverage.specs.Driver.Covered.{CoverRefusalUnder, IsJudgedCoverUnder};
 ghost use Rattle.lft_load.specs.Refusals.{is_of_text};
 ghost use Rattle.lft_driver.specs.{inner.Explained.WriteRefusal, Explained.Writes};

@@ -1,6 +1,6 @@
 //! Which hint a breach has.
 
-ghost use Rattle.std.specs.Prelude.{◌≡◌, ◌≢◌, ◌↔◌, ◌+◌, ◌<◌, ◌≤◌, ◌⊎◌, ℕ, length, IsTrue, IfSome, IfNone, IfOk};
+ghost use Rattle.std.specs.Prelude.{◌≡◌, ◌≢◌, ◌↔◌, ◌+◌, ◌<◌, ℕ, length, IsTrue, IfSome, IfNone, IfOk};
 ghost use Rattle.lft_ir.specs.{declared.parts.Trigger.TheVariants.Shutdown, Steps.Fits.RowsFit};
 ghost use Rattle.lft_model.specs.{Plans.PlanParts, Presence.{stop, Triggered}};
 ghost use Rattle.lft_races.specs.{Races.FirstSoFar, declared.hints.hint.Hint.Hint as TheHint, inner.Hints.Actions.AreActions};

@@ -1,6 +1,6 @@
 //! Cards as tables.
 
-ghost use Rattle.std.specs.Prelude.{◌≡◌, ◌≢◌, ◌↔◌, ◌<◌, ℕ, List, length, IfOk, IfErr, IfSome, IfNone, IsTrue, true, false};
+ghost use Rattle.std.specs.Prelude.{◌≡◌, ◌↔◌, ◌<◌, List, length, IfOk, IfErr, IfSome, IfNone, IsTrue, true, false};
 ghost use Rattle.csv.specs.Records.{fields_of};
 ghost use Rattle.lft_tables.specs.Records.{records_of};
 ghost use Rattle.lft_record.specs.{CardTables.{CardTable, CardsFail, FaultAt, IsCard, IsContent, cards_header}, CardFaults.is_told};

@@ -1,6 +1,6 @@
 //! Where writes arrive.
 
-ghost use Rattle.std.specs.Prelude.{◌≡◌, ◌≢◌, ◌↔◌, ℕ, Contains, AllPairs, IfOk};
+ghost use Rattle.std.specs.Prelude.{◌≢◌, ◌↔◌, ℕ, Contains, AllPairs, IfOk};
 ghost use Rattle.lft_ir.specs.Parts.{Parts};
 ghost use Rattle.lft_scheduler.specs.inner.Listeners.{IsArrival, IsWatched, AreArrivals};
 

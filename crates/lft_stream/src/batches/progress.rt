@@ -1,6 +1,6 @@
 //! How far the rows of a trace are judged, a batch at a time.
 
-ghost use Rattle.std.specs.Prelude.{◌≡◌, ◌++◌, ◌≤◌, List, [], length, IfOk, IfSome, IsTrue};
+ghost use Rattle.std.specs.Prelude.{◌++◌, ◌≤◌, List, [], length, IfOk, IfSome, IsTrue};
 ghost use Rattle.lft_ir.specs.{Steps.Fits.RowsFit, declared.steps.row.Row.Row as TheRow};
 ghost use Rattle.lft_model.specs.Accepted.{IsAccepted};
 ghost use Rattle.lft_stream.specs.inner.Batches.Progresses.{IsGoneOn, IsJudgedTo, IsProgress};

@@ -3,7 +3,7 @@
 ghost use Rattle.std.specs.Prelude.{◌<◌, ◌≤◌, length, IfSome, IsTrue};
 ghost use Rattle.lft_ir.specs.Steps.Fits.{RowsFit};
 ghost use Rattle.lft_trace.specs.inner.Parts.{BeginsWith, HoldsRows};
-ghost use Rattle.lft_tables.specs.inner.Parts.{IsCut, items_of};
+ghost use Rattle.lft_tables.specs.inner.Parts.{items_of};
 
 use crate::reaction_names::ReactionNames;
 use lft_ir::steps::Row;

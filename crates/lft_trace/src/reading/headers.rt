@@ -1,8 +1,8 @@
 //! The lines of headers.
 
-ghost use Rattle.std.specs.Prelude.{◌≡◌, ◌++◌, ◌∷◌, [], IfSome, IsTrue, false};
+ghost use Rattle.std.specs.Prelude.{◌≡◌, ◌∷◌, [], IfSome, IsTrue};
 ghost use Rattle.lft_trace.specs.{ExternalTables.header as inputs_header, Traces.header};
-ghost use Rattle.lft_tables.specs.{Records.records_of, inner.Parts.BeginsPlain, Parts.{EndsLine, HasNoQuote}};
+ghost use Rattle.lft_tables.specs.{Records.records_of, inner.Parts.BeginsPlain, Parts.HasNoQuote};
 
 use lft_tables::may_begin_with_mark;
 

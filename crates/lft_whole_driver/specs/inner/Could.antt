@@ -18,5 +18,5 @@ abbrev pub IsReadPast : List ℕ → ℕ → Type 0
 IsReadPast t token = (tokens : List Token) × (tokens_of t ≡ Ok tokens) × GoesPast token (reads t tokens)
 
 -- With the candidate behind it, and a blank between, the front of a text is read further than its last token, which is the candidate's.
-abbrev pub CanStand : List ℕ → ℕ → Candidate → Type 0
-CanStand front token candidate = IsReadPast ((front ++ 32 ∷ []) ++ lexeme_words (candidate_token candidate)) token
+abbrev pub CanStandLast : List ℕ → ℕ → Candidate → Type 0
+CanStandLast front token candidate = IsReadPast ((front ++ 32 ∷ []) ++ lexeme_words (candidate_token candidate)) token

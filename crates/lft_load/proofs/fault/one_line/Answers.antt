@@ -1,5 +1,5 @@
-use Rattle.std.proofs.Common.{◌≡◌, flat_map, ap, ◌∙◌, sym}
-use Rattle.std.{specs.{Char.encode_utf8, Str.chars}, proofs.lemmas.{Iterator.{YieldsList-from_chars, Consumers.YieldsList-end}, List.map-id}}
+use Rattle.std.proofs.Common.{flat_map, ap, ◌∙◌, sym}
+use Rattle.std.{specs.Char.encode_utf8, proofs.lemmas.{Iterator.{YieldsList-from_chars, Consumers.YieldsList-end}, List.map-id}}
 use Rattle.lft_load.specs.Words.{in_line}
 use Rattle.lft_load.proofs.fault.one_line.Goals as goal
 

@@ -1,7 +1,7 @@
 use Rattle.std.proofs.Common.{refl, subst, arith}
 use Rattle.lft_tag.specs.declared.Tag.{Tag}
 use Rattle.lft_lists.proofs.Places.{contains_at, get_there}
-use Rattle.lft_model.{specs.Presence.stop, proofs.Places.slice_get_within}
+use Rattle.lft_model.proofs.Places.{slice_get_within}
 use Rattle.lft_stream.{specs.inner.Dues.IsDueAt, proofs.Owing.{due_occurs, due_set}}
 use Rattle.lft_stream.proofs.dues.meet.Goals as goal
 

@@ -1,4 +1,4 @@
-use Rattle.std.proofs.Common.{rules, ◌≡◌, ◌∙◌, ◌++◌, ◌≤◌, ◌+◌, true, map, take, length, ap, sym, subst, arith, ℕ}
+use Rattle.std.proofs.Common.{rules, ◌≡◌, ◌∙◌, ◌++◌, ◌+◌, true, map, take, ap, sym, subst, arith, ℕ}
 use Rattle.csv.specs.Records.{fields_of}
 use Rattle.lft_tables.{specs.inner.Records.records_unread, proofs.Ahead.put-behind}
 use Rattle.lft_tables.proofs.records.read_ahead.Goals as goal

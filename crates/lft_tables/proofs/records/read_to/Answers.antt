@@ -1,4 +1,4 @@
-use Rattle.std.proofs.Common.{rules, ◌≡◌, ◌∙◌, ◌++◌, ◌∷◌, [], inl, take, ap}
+use Rattle.std.proofs.Common.{◌∙◌, ◌++◌, ◌∷◌, [], inl, ap}
 use Rattle.std.proofs.lemmas.List.{take_more_set}
 use Rattle.csv.specs.Records.{fields_of}
 use Rattle.lft_tables.proofs.Fuel.{read-more, read-none}

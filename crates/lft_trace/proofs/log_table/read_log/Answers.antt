@@ -1,5 +1,5 @@
-use Rattle.std.proofs.Common.{List, subst}
-use Rattle.lft_ir.specs.{Parts.Parts, declared.steps.row.Row.Row as TheRow}
+use Rattle.std.proofs.Common.{subst}
+use Rattle.lft_ir.specs.Parts.{Parts}
 use Rattle.lft_trace.{specs.inner.LogTables.ReadsLines, proofs.{LogTableFacts.{inputs_fit, rows_fit}, log_table.read_log.Goals.In-Ok}}
 use Rattle.lft_tables.specs.Records.{records_of}
 use Rattle.lft_trace.proofs.log_table.read_log.Goals as goal

@@ -1,4 +1,4 @@
-use Rattle.std.proofs.Common.{◌≡◌, ◌∙◌, ◌++◌, List, ℕ, ap, inr}
+use Rattle.std.proofs.Common.{◌≡◌, ◌++◌, ap, inr}
 use Rattle.lft_ir.specs.Parts.{Parts}
 use Rattle.lft_coverage.specs.Facts.{fact_lines}
 use Rattle.lft_driver.proofs.Behind.{no_text}

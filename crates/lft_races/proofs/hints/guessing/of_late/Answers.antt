@@ -1,7 +1,7 @@
 use Rattle.std.proofs.Common.{◌≡◌, ◌+◌, ℕ, inl, inr, ◌<◌, List, Option, length, subst, arith}
 use Rattle.lft_ir.specs.declared.steps.row.Row.{Row}
 use Rattle.lft_model.specs.{declared.breach.Breach.Breach, Plans.PlanParts}
-use Rattle.lft_races.{specs.{Races.{FirstSoFar, IsRaceBefore}, Hints.Hints.{HasRace, IsOfStart, IsOfOpen}}, proofs.Standing.{row_of_rule, no_race_before}}
+use Rattle.lft_races.{specs.{Races.{FirstSoFar, IsRaceBefore}, Hints.Hints.{HasRace, IsOfOpen}}, proofs.Standing.{row_of_rule, no_race_before}}
 use Rattle.lft_races.proofs.hints.guessing.of_late.Goals as goal
 
 -- rule 1 is of a row

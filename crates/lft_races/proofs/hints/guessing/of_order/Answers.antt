@@ -1,4 +1,4 @@
-use Rattle.std.proofs.Common.{◌≡◌, ℕ, inr, ◌<◌, Option, subst, arith}
+use Rattle.std.proofs.Common.{ℕ, inr, Option, subst, arith}
 use Rattle.lft_races.{specs.{Races.IsRaceBefore, Hints.Hints.HasRace}, proofs.Standing.{row_of_rule, no_race_before}}
 use Rattle.lft_races.proofs.hints.guessing.of_order.Goals as goal
 

@@ -1,4 +1,4 @@
-use Rattle.std.proofs.Common.{rules, arith, ◌≡◌, ◌≤◌, ◌<◌, ◌+◌, ◌∙◌, sym, ap, Some, slice_get, get_or, length, take, filter_map}
+use Rattle.std.proofs.Common.{rules, arith, ◌≡◌, ◌+◌, ◌∙◌, sym, ap, Some, slice_get, get_or, length, take, filter_map}
 use Rattle.std.proofs.lemmas.{List.take_all, Option.slice_get-get_or}
 use Rattle.lft_ir.specs.{Naming.named, declared.parts.{Name.TheVariants.Port, Trigger.TheVariants.{Startup, On}}}
 use Rattle.lft_record.proofs.Places.{behind, named_more, no_input, none_up_to, nothing_more, trigger_input}

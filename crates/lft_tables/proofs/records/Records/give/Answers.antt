@@ -1,4 +1,4 @@
-use Rattle.std.proofs.Common.{rules, refl}
+use Rattle.std.proofs.Common.{refl}
 use Rattle.lft_tables.proofs.Ahead.{next-left}
 use Rattle.lft_tables.proofs.records.Records.give.Goals as goal
 

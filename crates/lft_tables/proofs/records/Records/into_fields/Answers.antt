@@ -1,4 +1,4 @@
-use Rattle.std.proofs.Common.{rules, ◌≡◌, ◌∷◌, get_or, ap, sym, arith, length}
+use Rattle.std.proofs.Common.{rules, ◌≡◌, ◌∷◌, get_or, ap, sym}
 use Rattle.std.proofs.lemmas.List.{get_or_past}
 use Rattle.csv.specs.Records.{fields_of}
 use Rattle.lft_tables.proofs.records.Records.into_fields.Goals.{then-self-eq0-via-then-self-eq0, then-self-eq0-via-else-self-eq0+then-len-self}

@@ -1,4 +1,4 @@
-use Rattle.std.proofs.Common.{◌≡◌, ◌≤◌, ◌<◌, ◌/◌, ℕ, Some, slice_get}
+use Rattle.std.proofs.Common.{◌≡◌, ◌<◌, ◌/◌, ℕ, Some, slice_get}
 use Rattle.lft_ir.specs.declared.parts.{Name.Name, Reaction.Reaction}
 use Rattle.lft_rows.specs.inner.Marks.{HasSeat}
 use Rattle.lft_check.specs.inner.ByTag.{Reads.IsMissed, Walks.HasWalked}
