@@ -20,7 +20,7 @@ FAULTS = {
     "trace": {1: "BadHeader", 2: "BadFieldCount" + LINED, 3: "BadEvent" + LINED, 4: "BadNumber" + LINED, 5: "UnknownName" + LINED, 6: "FieldInPlace" + LINED,
               10: "TooManyRows", 11: "NotCsv", 12: "NoMemory", 13: "LongLine" + LINED, 14: "NotPlain" + LINED,
               15: "SecondHeader" + LINED},
-    "check": {1: "BadWorkers", 2: "NoWorker", 3: "NoMemory"},
+    "check": {1: "BadWorkers", 3: "NoMemory"},
     "pool": {1: "NoBody NAME", 2: "Collision TAG", 3: "UndeclaredEffect NAME", 4: "TooManyRuns", 5: "Stranger", 6: "BodyNoMemory", 7: "NoMemory",
              8: "NoWorker", 9: "PlanChanged", 10: "BadWorkers", 11: "TooManyRows", 12: "LimitTag"},
     "cards": {1: "BadHeader", 2: "BadFieldCount" + LINED, 3: "BadKind" + LINED, 4: "BadNumber" + LINED, 5: "UnknownName" + LINED, 6: "FieldInPlace" + LINED,

@@ -66,9 +66,9 @@ told.
 Printed: accepted runs=R tags=G (status 0); broken rule=N .. (status 1), as soon
 as it is sure; odd line=L runs=R tags=G .. (status 4), where the rows up to
 line L can't be judged further, since too much waits or memory is refused;
-unbroken runs=R tags=G time=T microstep=M at the end (status 3), where rows are
-missing or those at the last tag may break a rule: --whole tells; the same with
---until (status 0).
+unbroken runs=R tags=G .. at the end (status 3), where rows are missing or those
+at the last tag may break a rule: --whole tells; the same with --until (status
+0). Behind .. stands the last tag that was judged, time=T microstep=M.
 With --explain an empty line and the facts that show it stand behind broken ..,
 of the trace up to the line that they name, and the runs that are open behind
 unbroken .. at the end. For the facts what is read is kept, as much as a table

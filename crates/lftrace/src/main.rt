@@ -198,12 +198,18 @@ fn words_for(job: Job<'_>, answer: &Result<bool, Failure>) -> Option<&'static st
     {
         return failure.cause;
     }
-    match job {
-        Job::Bundle | Job::Ask(_) if has_more(answer) => {
+    match (job, job.is_lowered()) {
+        (Job::Bundle | Job::Ask(_), false) if has_more(answer) => {
             Some("`lftrace explain` with the same texts tells why")
         }
-        Job::Record(_) | Job::Show(_) if has_more_of_program(answer) => {
+        (Job::Bundle | Job::Ask(_), true) if has_more(answer) => {
+            Some("`lftrace explain --lower` with the same texts tells why")
+        }
+        (Job::Record(_) | Job::Show(_), false) if has_more_of_program(answer) => {
             Some("`lftrace explain PROGRAM` tells why")
+        }
+        (Job::Record(_) | Job::Show(_), true) if has_more_of_program(answer) => {
+            Some("`lftrace explain --lower PROGRAM` tells why")
         }
         _ => None,
     }

@@ -130,6 +130,18 @@ impl Job<'_> {
             _ => false,
         }
     }
+
+    /// Whether its program may be a whole one.
+    pub(crate) fn is_lowered(self) -> bool {
+        match self {
+            Job::Bundle | Job::ExplainBundle { .. } => false,
+            Job::Ask(Question::One { words, .. }) => words.program.lower,
+            Job::Ask(Question::Two { words, .. }) => words.program.lower,
+            Job::ExplainProgram(words) | Job::Show(words) => words.program.lower,
+            Job::Record(words) => words.program.lower,
+            Job::Follow(words) => words.program.lower,
+        }
+    }
 }
 
 fn path<'a>(alloc: Global, id: &'a str, help: &'a str) -> Arg<'a> {
@@ -199,7 +211,7 @@ fn all_arg<'a>(alloc: Global) -> Arg<'a> {
     Arg::new(alloc, "all")
         .long("all")
         .action(ArgAction::SetTrue)
-        .help("print all lines of each part,\nand not the first 60")
+        .help("print all lines of each part,\nnot the first 60 alone")
 }
 
 fn explain_command<'a>(alloc: Global) -> Result<Command<'a>, Error> {
@@ -407,7 +419,7 @@ fn until<'a>(mut command: Command<'a>, matches: &ArgMatches<'a>) -> Result<Optio
     match read_until(text(matches, "until").as_bytes()) {
         Some(tag) => Ok(Some(tag)),
         None => {
-            let words = "`--until` wants TIME,MICROSTEP, as 5000000,0";
+            let words = "`--until` wants TIME,MICROSTEP, as 5000000,0; at most 10^18 and 10^9";
             Err(command.error(ErrorKind::ValueValidation, words)?)
         }
     }
