@@ -1,5 +1,5 @@
 -- A text that lacks a marker is no bundle.
-use Rattle.std.proofs.Common.{◌≡◌, List, ℕ, sym, subst, codes}
+use Rattle.std.proofs.Common.{◌≡◌, List, ℕ, ◌++◌, length, drop, refl, sym, ap, ◌∙◌, subst, codes}
 use Rattle.std.proofs.lemmas.List.{drop_at}
 use Rattle.lft_driver.{specs.{Bundles.{IsBundle, IsCut}, Markers.IsMissing, declared.bundle.Marker.Marker}, proofs.Texts.cut_once}
 use Rattle.lft_driver.specs.declared.bundle.Marker.TheVariants as markers

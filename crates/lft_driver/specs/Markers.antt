@@ -1,5 +1,5 @@
 -- Which marker a text lacks that is no bundle.
-use Rattle.std.specs.Prelude.{◌≡◌, ◌≢◌, ℕ, List, codes}
+use Rattle.std.specs.Prelude.{◌≡◌, ◌≢◌, ℕ, List, ◌++◌, codes}
 use Rattle.lft_driver.specs.{Bundles.IsCut, declared.bundle.Marker.Marker}
 use Rattle.lft_driver.specs.declared.bundle.Marker.TheVariants as markers
 

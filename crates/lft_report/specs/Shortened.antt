@@ -1,5 +1,5 @@
 -- Which lines of a part of a text are printed.
-use Rattle.std.specs.Prelude.{ℕ, zero, suc, Bool, true, false, List, [], ◌∷◌, codes, count_by, nat_eq, if◌then◌else◌}
+use Rattle.std.specs.Prelude.{ℕ, zero, suc, Bool, true, false, List, [], ◌∷◌, ◌++◌, codes, decimal, count_by, nat_eq, if◌then◌else◌}
 
 -- how many lines end in some bytes
 abbrev pub line_ends : List ℕ → ℕ

@@ -1,4 +1,4 @@
-use Rattle.std.proofs.Common.{◌++◌, codes}
+use Rattle.std.proofs.Common.{◌++◌, ap, ◌∙◌, codes, string_bytes}
 use Rattle.lft_ir.{specs.Words.Words.{port_words, reaction_words}, proofs.WordsLemmas.Steps.also}
 use Rattle.lft_report.specs.Orders.{origin_of}
 use Rattle.lft_report.proofs.orders.push_feeds.Goals as goal

@@ -1,5 +1,5 @@
 use Rattle.std.proofs.Common.{◌≡◌, ◌++◌, codes, string_bytes, subst}
-use Rattle.lft_ir.{specs.Words.Words.time_words, proofs.WordsLemmas.Steps.also}
+use Rattle.lft_ir.{specs.Words.Words.{time_words, tag_words}, proofs.WordsLemmas.Steps.also}
 use Rattle.lft_report.specs.Ways.{least_delay, extra_at}
 use Rattle.lft_report.proofs.ways.push_delays.Goals as goal
 
