@@ -6,14 +6,18 @@
 //! the lemma `records_cut`: a text is cut behind a line feed, has no quotation mark before the cut, and no byte
 //! order mark begins behind it. Then its records are those before the cut, and then those behind it.
 
+mod history;
 mod lines;
 mod records;
+mod source;
 mod table;
 mod table_lines;
 mod workers;
 
+pub use history::Given;
 pub use lines::{cut_behind, first_lines, may_begin_with_mark};
 pub use records::{Records, Unread, field};
+pub use source::Source;
 pub use table::TableReader;
 pub use table_lines::{ReadFailed, TableLines};
 pub use workers::{is_one_part, read_parts, read_plain};
