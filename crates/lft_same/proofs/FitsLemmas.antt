@@ -6,6 +6,7 @@ pub mod Giving
 pub mod Lineage
 pub mod MemberNames
 pub mod Nested
+pub mod Once
 pub mod Ports
 pub mod Shapes
 pub mod Widths

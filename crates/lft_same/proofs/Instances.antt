@@ -6,7 +6,7 @@ use Rattle.lft_whole.specs.declared.sources.source.SourceFile.{SourceFile}
 use Rattle.lft_classes.specs.{inner.Walks.Has, declared.shapes.Shape.Shape}
 use Rattle.lft_elaborate.specs.inner.{Settings.{setting_at, shape_at}, Values.Valued, Widths.found_width}
 use Rattle.lft_lower.specs.inner.Reactors.{IsLowering, IsReactor}
-use Rattle.lft_same.specs.{Expanded.Instances.{Inside, Widths}, inner.{Fits.Fits.Fits, Times.HasParameterTimes}}
+use Rattle.lft_same.specs.{Expanded.Instances.{Inside, Widths}, inner.{Fits.Fits.Fits, Times.{HasParameterTimes, HaveTimeValues}}}
 
 -- where a setting that instances have fits an instance, that one has the widths that lowering found
 abbrev pub AreWidthsFound : (files : List SourceFile) (tree : Ast) → IsLowering files tree → Widths → Type 0
@@ -24,3 +24,4 @@ pub record StandsFor (files : List SourceFile) (tree : Ast) (low : IsLowering fi
   pub listed : Contains (reactors_of (tree_view tree)) core.reactor
   pub reactor : IsReactor low.settings low.names number shape core.reactor
   pub times : HasParameterTimes files x core
+  pub timed : HaveTimeValues files x core.reactor.parameters

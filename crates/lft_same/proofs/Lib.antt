@@ -18,6 +18,7 @@ pub mod Same
 pub mod Settings
 pub mod Sleeping
 pub mod Standing
+pub mod Taken
 pub mod Timers
 pub mod Times
 pub mod Widths

@@ -108,7 +108,7 @@ module _ (files : List SourceFile) (tree : Ast) (low : IsLowering files tree) (w
     h = here files tree low x s
 
     -- the setting in the instance
-    u : (u : Valued) × (inside low.settings.shapes.items s.setting m ≡ Some u) × (slice_get low.settings.shapes.items u.shape ≡ Some shape)
+    pub u : (u : Valued) × (inside low.settings.shapes.items s.setting m ≡ Some u) × (slice_get low.settings.shapes.items u.shape ≡ Some shape)
     u =
         let child = then_some (λ (child : Child). slice_get low.settings.shapes.items child.shape) (child_at s.shape.children.items m) shape is_shape in
         let v : Valued = record { shape = child.0.shape; values = values_inside s.shape s.setting.values child.0.given.items shape } in (
@@ -124,13 +124,13 @@ module _ (files : List SourceFile) (tree : Ast) (low : IsLowering files tree) (w
     its_instance = (nested files tree low).instance s.setting u.0 x m s.fits u.1
 
     -- what is in it
-    y : (y : Inside) × (inside_of files x (its_instance.0, its_instance.1) ≡ Some y)
+    pub y : (y : Inside) × (inside_of files x (its_instance.0, its_instance.1) ≡ Some y)
     y = let r = (nested files tree low).inside_fits s.setting u.0 x m its_instance.0 its_instance.1 s.fits its_instance.2 u.1 in (r.0, r.1)
 
     is_place : place_named files x b ≡ Some m
     is_place = member_found files s.shape x (of_class files tree low x s) b m is
 
-    inside_is : inside_named files x b ≡ Some y.0
+    pub inside_is : inside_named files x b ≡ Some y.0
     inside_is =
         ap (option_and_then (λ k. option_and_then (λ m. option_and_then (inside_of files x) (new_in m)) (slice_get (members_of files x.class) k))) is_place
         ∙ ap (option_and_then (λ m. option_and_then (inside_of files x) (new_in m))) its_instance.2

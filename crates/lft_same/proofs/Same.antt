@@ -7,12 +7,12 @@ use Rattle.lft_lists.proofs.Places.{Some_same}
 use Rattle.lft_tree.specs.{Tree.ReactorTree, View.tree_view, declared.ast.Ast.Ast}
 use Rattle.lft_whole.specs.declared.sources.source.SourceFile.{SourceFile}
 use Rattle.lft_lower.specs.inner.Reactors.{IsLowering}
-use Rattle.lft_same.specs.inner.{Expanded.Core.{core_contents, expanded_tree}, Laws.LoweredLaw}
+use Rattle.lft_same.specs.inner.{Expanded.Core.{core_contents, expanded_tree}}
 use Rattle.lft_same.specs.Expanded.{Expanded.Contents, Instances.{Inside, Widths, entered_instance, main_class_instance}, Reactors.{Class, main_of}}
 use Rattle.lft_same.specs.Expanded.{Same.{IsNever, IsSame, awake}, Whole.{AreWidths, expanded_files, whole_contents}}
 use Rattle.lft_same.proofs.{Instances.{AreWidthsFound, StandsFor}, Connections.links_alike, Declared.{actions_alike, awake_actions, ports_alike, timers_alike}}
 use Rattle.lft_same.proofs.{Inners.names_alike, Members.never_of, Paths.{Both, both, neither, together}, Reactions.{awake_reactions, reactions_alike}}
-use Rattle.lft_same.proofs.{Reactors.has_main, Sleeping.is_never, Widths.has_widths, Standing.{main_stands, step_stands}}
+use Rattle.lft_same.proofs.{Reactors.has_main, Sleeping.is_never, Standing.{main_stands, step_stands}}
 
 -- what has the same parts is the same
 awoken : (path : List ℕ) (never : Option (List ℕ)) (c d : Contents) → c.instances ≡ d.instances → c.ports ≡ d.ports → awake_actions never c.actions ≡ d.actions → c.timers ≡ d.timers → awake_reactions path never c.reactions ≡ d.reactions → c.links ≡ d.links → awake path never c ≡ d
@@ -20,7 +20,7 @@ awoken path None c d instances ports actions timers reactions links = λ i. reco
 awoken path (Some q) c d instances ports actions timers reactions links = λ i. record { instances = instances i; ports = ports i; actions = actions i; timers = timers i; reactions = reactions i; links = links i }
 
 module _ (files : List SourceFile) (tree : Ast) (low : IsLowering files tree) (none : NoneHolds (causes (tree_view tree))) (w : Widths) (found : AreWidthsFound files tree low w) where
-  abbrev Stand : CoreInside → Inside → Type 0
+  abbrev pub Stand : CoreInside → Inside → Type 0
   Stand core x = StandsFor files tree low x core
 
   -- a core instance has what the instance has for which it stands
@@ -34,13 +34,13 @@ module _ (files : List SourceFile) (tree : Ast) (low : IsLowering files tree) (n
       (reactions_alike files tree low w found none x core s path)
       (links_alike files tree low w found none x core s path)
 
-  main : (r : ReactorTree) × (core_main_of (tree_view tree) ≡ Some r)
+  pub main : (r : ReactorTree) × (core_main_of (tree_view tree) ≡ Some r)
   main = has_main tree none
 
-  stands : (c : Class) × (main_of files ≡ Some c) × StandsFor files tree low (main_class_instance files c) (core_main main.0)
+  pub stands : (c : Class) × (main_of files ≡ Some c) × StandsFor files tree low (main_class_instance files c) (core_main main.0)
   stands = main_stands files tree low main.0 main.1
 
-  at_path : (path : List ℕ) → Both Stand (along (core_entered (tree_view tree)) (core_main main.0) path) (along (entered_instance files w) (main_class_instance files stands.0) path)
+  pub at_path : (path : List ℕ) → Both Stand (along (core_entered (tree_view tree)) (core_main main.0) path) (along (entered_instance files w) (main_class_instance files stands.0) path)
   at_path path = together Stand (core_entered (tree_view tree)) (entered_instance files w) (λ core x k s. step_stands files tree low none w found x core s k) path (core_main main.0) (main_class_instance files stands.0) stands.2
 
   -- the action without events of the core instance, if there is one
@@ -48,7 +48,7 @@ module _ (files : List SourceFile) (tree : Ast) (low : IsLowering files tree) (n
   never_in _ _ neither = None
   never_in _ _ (both core x s) = never_of files tree low x core s
 
-  never_at : List ℕ → Option (List ℕ)
+  pub never_at : List ℕ → Option (List ℕ)
   never_at path = never_in (along (core_entered (tree_view tree)) (core_main main.0) path) (along (entered_instance files w) (main_class_instance files stands.0) path) (at_path path)
 
   tree_at : (path : List ℕ) → expanded_tree (tree_view tree) path ≡ option_map (core_contents path) (along (core_entered (tree_view tree)) (core_main main.0) path)
@@ -57,7 +57,7 @@ module _ (files : List SourceFile) (tree : Ast) (low : IsLowering files tree) (n
   files_at : (path : List ℕ) → expanded_files files w path ≡ option_map (whole_contents files w path) (along (entered_instance files w) (main_class_instance files stands.0) path)
   files_at path = ap (option_and_then (λ main. option_map (whole_contents files w path) (along (entered_instance files w) (main_class_instance files main) path))) stands.1
 
-  never_is : (path : List ℕ) (c : Contents) → expanded_tree (tree_view tree) path ≡ Some c → IsNever path (never_at path) c
+  pub never_is : (path : List ℕ) (c : Contents) → expanded_tree (tree_view tree) path ≡ Some c → IsNever path (never_at path) c
   unfolding never_at never_in
   never_is path c e = go (along (core_entered (tree_view tree)) (core_main main.0) path) (along (entered_instance files w) (main_class_instance files stands.0) path) (at_path path) (sym (tree_at path) ∙ e)
     where
@@ -69,7 +69,7 @@ module _ (files : List SourceFile) (tree : Ast) (low : IsLowering files tree) (n
       go _ _ neither e = absurd (cc)
       go _ _ (both core x s) e = subst (IsNever path (never_of files tree low x core s)) (Some_same (core_contents path core) c e) (known (never_of files tree low x core s) core x s refl)
 
-  same_at : (path : List ℕ) → option_map (awake path (never_at path)) (expanded_tree (tree_view tree) path) ≡ expanded_files files w path
+  pub same_at : (path : List ℕ) → option_map (awake path (never_at path)) (expanded_tree (tree_view tree) path) ≡ expanded_files files w path
   unfolding never_at never_in
   same_at path = ap (option_map (awake path (never_at path))) (tree_at path) ∙ go (along (core_entered (tree_view tree)) (core_main main.0) path) (along (entered_instance files w) (main_class_instance files stands.0) path) (at_path path) ∙ sym (files_at path)
     where
@@ -77,8 +77,5 @@ module _ (files : List SourceFile) (tree : Ast) (low : IsLowering files tree) (n
       go _ _ neither = refl
       go _ _ (both core x s) = ap Some (contents_alike path x core s)
 
-  is_same : AreWidths files w → IsSame files (expanded_tree (tree_view tree))
+  abbrev pub is_same : AreWidths files w → IsSame files (expanded_tree (tree_view tree))
   is_same are = record { widths = w; are_widths = are; never = never_at; is_never = never_is; same = same_at }
-
-pub lowered_law : (files : List SourceFile) → LoweredLaw files
-lowered_law files tree low none = let w = has_widths files tree low none in is_same files tree low none w.0 w.2 w.1

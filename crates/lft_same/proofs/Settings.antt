@@ -140,7 +140,7 @@ module _ (files : List SourceFile) (tree : Ast) (low : IsLowering files tree) wh
     inside_found : (n k : ℕ) (u : Valued) → found_inside low.settings s.number n ≡ Some k → inside low.settings.shapes.items s.setting n ≡ Some u → setting_at low.settings k ≡ Some u
     inside_found n k u e in_u = let v = found_is_inside low.settings s.number n k s.setting low.program.settings.made e s.is_setting in v.2 ∙ ap Some (Some_same v.0 u (sym v.1 ∙ in_u))
 
-    reached : IsReached low.settings.shapes.items s.setting
+    pub reached : IsReached low.settings.shapes.items s.setting
     reached =
         let r = low.program.are_used.reached s.number s.used in
         subst (IsReached low.settings.shapes.items) (Some_same r.0 s.setting (sym r.1 ∙ s.is_setting)) r.2

@@ -1,5 +1,5 @@
 -- A step of a core instance leads where one of the instance leads for which it stands.
-use Rattle.std.proofs.Common.{◌≡◌, ℕ, List, map, Option, Some, None, Contains, option_map, slice_get, refl, sym, ap, subst, ◌∙◌}
+use Rattle.std.proofs.Common.{◌≡◌, ℕ, true, List, map, Option, Some, None, Contains, option_map, slice_get, refl, sym, ap, subst, ◌∙◌}
 use Rattle.std.specs.{List.AllZip, Option.option_and_then}
 use Rattle.lft_lists.proofs.{Mapped.option_map_some, Places.same_some, Members.{Mem, contains_mem, mem_get}}
 use Rattle.lft_tree.specs.{Tree.{AssignmentTree, InstanceTree, ReactorTree, instances_of, reactors_of}, View.tree_view, declared.ast.Ast.Ast}
@@ -8,13 +8,13 @@ use Rattle.lft_resolve.specs.Instances.{Inside as CoreInside, entered as core_en
 use Rattle.lft_resolve.proofs.{Directed.AllZip-to, Files.AllZip-from}
 use Rattle.lft_whole.specs.declared.sources.source.SourceFile.{SourceFile}
 use Rattle.lft_classes.specs.declared.shapes.Shape.{Shape}
-use Rattle.lft_elaborate.specs.inner.{Meanings.shape_inside, Values.{Valued, main_setting, main_values}}
+use Rattle.lft_elaborate.specs.inner.{Meanings.shape_inside, Values.{Valued, main_setting, main_values as main_values_of}}
 use Rattle.lft_lower.specs.inner.Reactors.{AreShapesOfFiles, IsLowering}
 use Rattle.lft_same.specs.Expanded.{Instances.{Inner, Inside, Widths, entered_instance, inners, inside_of, main_class_instance}, Reactors.{Class, main_of}}
 use Rattle.lft_same.specs.inner.{Fits.Fits.Fits, Times.IsKnown}
-use Rattle.lft_same.proofs.{FitsLemmas.{Nested.main_law, Ports.shape_is_inside}, Instances.{AreWidthsFound, StandsFor}, Found.shape_of_setting}
+use Rattle.lft_same.proofs.{FitsLemmas.{Giving.find_some, Nested.main_law, Ports.shape_is_inside}, Instances.{AreWidthsFound, StandsFor}, Found.shape_of_setting}
 use Rattle.lft_same.proofs.{Inners.{IsInner, instances_alike}, Known.{given_time, known_law}, Members.here, Paths.{Both, both_at, neither}}
-use Rattle.lft_same.proofs.{Reactors.{has_reactor, main_found, reactor_found}, Settings.nested, Times.{inside_times, main_times}}
+use Rattle.lft_same.proofs.{Reactors.{has_reactor, main_found, reactor_found}, Settings.nested, Times.{inside_times, inside_values, main_times, main_values}}
 
 -- the law of the main setting, of the shapes of a program
 main_fits_at : (files : List SourceFile) (shapes : List Shape) → AreShapesOfFiles files shapes → (t : Valued) → main_setting shapes ≡ Some t → (c : Class) × (main_of files ≡ Some c) × Fits files shapes t (main_class_instance files c)
@@ -41,11 +41,15 @@ module _ (files : List SourceFile) (tree : Ast) (low : IsLowering files tree) wh
           listed = is.listed;
           reactor = is.reactor;
           times = main_times files low.settings.shapes.items is.shape c r low.program.shapes first main is.reactor.parameters;
+          timed = main_values files low.settings.shapes.items is.shape c r low.program.shapes first main is.reactor.parameters r.is_main (is_main r found) is.reactor.defaults;
         },
       )
     where
+      is_main : (r : ReactorTree) → core_main_of (tree_view tree) ≡ Some r → r.is_main ≡ true
+      is_main r e = (find_some (λ (r : ReactorTree). r.is_main) (reactors_of (tree_view tree)) r e).1
+
       main_of_shape : Shape → Valued
-      main_of_shape main = record { shape = 0; values = main_values main }
+      main_of_shape main = record { shape = 0; values = main_values_of main }
 
   module _ (none : NoneHolds (causes (tree_view tree))) (w : Widths) (found : AreWidthsFound files tree low w) (x : Inside) (core : CoreInside) (s : StandsFor files tree low x core) where
     -- what `new` gives is known
@@ -78,6 +82,7 @@ module _ (files : List SourceFile) (tree : Ast) (low : IsLowering files tree) wh
             listed = is.listed;
             reactor = is.reactor;
             times = inside_times files (here files tree low x core s) s.setting u x y core one.number one.file one.instance is.shape r.0 i.given low.program.shapes outer s.fits one.at in_u is_y s.times one.given (given_known i (mem_get (instances_of core.reactor) k i at)) inner is.reactor.parameters;
+            timed = inside_values files (here files tree low x core s) s.setting u x y core.reactor.parameters one.number one.file one.instance is.shape r.0 i.given r.0.is_main low.program.shapes outer s.fits one.at in_u is_y s.timed one.given (given_known i (mem_get (instances_of core.reactor) k i at)) inner is.reactor.parameters is.reactor.defaults;
           },
         )
 

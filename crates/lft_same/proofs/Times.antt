@@ -1,8 +1,8 @@
 -- Core instances have the times of the instances that they stand for.
-use Rattle.std.proofs.Common.{◌≡◌, ℕ, zero, suc, eqb, ◌⊎◌, inl, inr, Bool, true, false, List, [], ◌∷◌, length, map, Option, Some, None, Contains, IsSomeAnd, ◌≤◌, filter_map, option_map, slice_get, refl, sym, ap, subst, ◌∙◌}
-use Rattle.std.specs.Prelude.{bytes_eq, find, if◌then◌else◌, is_some, string_bytes}
+use Rattle.std.proofs.Common.{◌≡◌, ℕ, zero, suc, eqb, ◌⊎◌, inl, inr, Bool, true, false, List, [], ◌∷◌, length, map, Option, Some, None, Contains, IsSomeAnd, IfSome, ◌≤◌, filter_map, option_map, slice_get, refl, sym, ap, subst, ◌∙◌}
+use Rattle.std.specs.Prelude.{◌&&◌, bytes_eq, find, if◌then◌else◌, is_some, not, string_bytes, unwrap_or}
 use Rattle.std.{specs.{List.cons_option, Option.{option_and_then, option_map_or}}, proofs.lemmas.{Bool.Decides.eqb_tells, Slice.Eq.bytes_eq-Decides}}
-use Rattle.lft_lists.proofs.{Mapped.{mapped, option_map_some}, Members.{Mem, contains_mem, get_mem, mem_contains, mem_from_filter}}
+use Rattle.lft_lists.proofs.{Mapped.{mapped, option_map_some}, Members.{Mem, contains_mem, get_mem, mem_contains, mem_from_filter, mem_from_map}}
 use Rattle.lft_lists.proofs.Places.{Some_same, same_some}
 use Rattle.lft_tree.specs.{Tree.{AssignmentTree, ParameterTree, ReactorTree, TimeTree, Written, Named, nanoseconds}, declared.tree.Time.Time}
 use Rattle.lft_resolve.specs.Causes.{longest}
@@ -11,18 +11,19 @@ use Rattle.lft_program.{proofs.{FullNames.all_at, Zipping.then_some}, specs.Flat
 use Rattle.lft_whole.specs.declared.sources.source.SourceFile.{SourceFile}
 use Rattle.lft_whole.specs.declared.tree.{Assignment.Assignment, Expression.Expression, Instance.Instance, WrittenValue.WrittenValue}
 use Rattle.lft_classes.specs.declared.shapes.{Child.Child, GivenValue.GivenValue, InheritedParameter.InheritedParameter, Shape.Shape}
-use Rattle.lft_classes.specs.inner.Shapes.{child_at, thing_named}
+use Rattle.lft_classes.specs.inner.{Built.AreGiven, Circles.GivesOnce, Shapes.{child_at, thing_named}}
 use Rattle.lft_classes.proofs.Rows.{map_alike}
-use Rattle.lft_elaborate.specs.{inner.{Meanings.shape_inside, Values.{Valued, given_to, inside, main_setting, main_values}}, Values.is_forever}
+use Rattle.lft_elaborate.specs.{inner.{Meanings.shape_inside, Values.{Valued, given_to, inside, main_setting, main_values as main_values_of}}, Values.is_forever}
 use Rattle.lft_elaborate.specs.Channels.Channels.{below}
 use Rattle.lft_lower.specs.inner.Meanings.Meanings.{Here}
-use Rattle.lft_lower.specs.inner.{Lowered.{AreTimesGiven, IsGiven, IsPeriod, IsRead, assigned, given_times, period_at, time_at, time_given}, Needed.is_timed}
-use Rattle.lft_lower.specs.inner.Reactors.{AreShapesOfFiles, default_time, parameter_tree, timed_parameter, timed_parameters}
-use Rattle.lft_lower.specs.inner.Times.{IsTime, time_for, time_of_value}
+use Rattle.lft_lower.specs.inner.{Lowered.{AreTimesGiven, IsGiven, IsPeriod, IsRead, assigned, given_times, period_at, time_at, time_given}, Needed.{GivesEachOnce, GivesNeeded, is_bare, is_needed, is_timed}}
+use Rattle.lft_lower.specs.inner.Reactors.{AreShapesOfFiles, HasDefault, IsDefault, default_time, parameter_tree, timed_parameter, timed_parameters}
+use Rattle.lft_lower.specs.inner.Times.{IsTime, IsWrittenTime, time_for, time_of_value}
 use Rattle.lft_same.specs.Expanded.Instances.{Inside, default_of, value_given_in, value_or_default, inside_of, main_class_instance, period_in, read_in, time_of, value_named, time_written_in as whole_time_in}
 use Rattle.lft_same.specs.Expanded.Reactors.{Class, class_named, is_named, main_of, members_of, parameters_of}
-use Rattle.lft_same.specs.inner.{Fits.Fits.{Fits, IsShapeOf}, Times.{HasParameterTimes, IsKnown, time_named}}
-use Rattle.lft_same.proofs.FitsLemmas.{Fitting.parameter_is, Giving.{IsGivenBy, find_some}, MemberNames.value_found, Nested.{given_law, main_law}}
+use Rattle.lft_same.specs.inner.{Fits.Fits.{Fits, IsShapeOf}, Times.{HasParameterTimes, HaveTimeValues, IsKnown, time_named}}
+use Rattle.lft_same.specs.Expanded.Taken.{IsPeriodIn, IsTimeIn, IsTimeValue}
+use Rattle.lft_same.proofs.FitsLemmas.{Fitting.parameter_is, Giving.{IsGivenBy, find_some, to_some}, Once.given_once, MemberNames.value_found, Nested.{given_law, main_law}}
 use Rattle.lft_whole.specs.declared.tree.Member.TheVariants as member
 use Rattle.lft_whole.specs.declared.tree.WrittenValue.TheVariants as value
 use Rattle.lft_classes.specs.declared.shapes.OwnThing.TheVariants as thing
@@ -201,7 +202,7 @@ abbrev written_name : InheritedParameter → List ℕ
 written_name ip = string_bytes ip.parameter.now.name.text
 
 -- the instance of a reactor that `new` makes
-abbrev made_of : List SourceFile → Inside → Instance → Class → Inside
+abbrev pub made_of : List SourceFile → Inside → Instance → Class → Inside
 made_of files x i c = record { class = c; values = map (value_given_in files x i.given.items) (parameters_of files c) }
 
 -- the parameters of the reactor that `new` names have the times of what is given to them
@@ -232,34 +233,46 @@ inner_times files outer inner x core child i c of_inner has given_by gives known
         let k : IsKnown core.reactor.parameters f.0 = known b (mem_contains b (given_times inner child) (find_some (λ (a : AssignmentTree). bytes_eq (written_name one.ip) a.name) (given_times inner child) b f.2).0) in
         ap (core_given_or_default core p) f.2 ∙ read_time files x core a.value.value f.0 has f.1 k ∙ ap (λ o. option_map_or time_of (value_or_default files x one.ip.parameter.now o) 0) (sym e)
 
-pub main_times : (files : List SourceFile) (shapes : List Shape) (shape : Shape) (c : Class) (r : ReactorTree) → AreShapesOfFiles files shapes → slice_get shapes 0 ≡ Some shape → main_of files ≡ Some c → r.parameters ≡ timed_parameters shape → HasParameterTimes files (main_class_instance files c) (core_main r)
-main_times files shapes shape c r (scopes, n, is, same) first main parameters = map_alike (λ (p : ParameterTree). nanoseconds p.default) (λ p. time_named files (main_class_instance files c) p.name) r.parameters (λ p m. each p (subst (Mem p) parameters m))
+-- the first shape is of the main reactor
+main_shape : (files : List SourceFile) (shapes : List Shape) (shape : Shape) (c : Class) → AreShapesOfFiles files shapes → slice_get shapes 0 ≡ Some shape → main_of files ≡ Some c → IsShapeOf files shape c
+main_shape files shapes shape c (scopes, n, is, same) first main = subst (λ d. IsShapeOf files shape d) (same_some (main_of files) fits.0 c fits.1 main) (subst (λ s. IsShapeOf files s fits.0) (same_some (slice_get n.shapes.items 0) fits.2.shape shape fits.2.is_shape at_first) fits.2.of_class)
   where
     at_first : slice_get n.shapes.items 0 ≡ Some shape
     at_first = ap (λ l. slice_get l 0) same ∙ first
 
     t : (t : Valued) × (main_setting n.shapes.items ≡ Some t)
-    t = (record { shape = 0; values = main_values shape }, ap (option_map (λ main. record { shape = 0; values = main_values main })) at_first)
+    t = (record { shape = 0; values = main_values_of shape }, ap (option_map (λ main. record { shape = 0; values = main_values_of main })) at_first)
 
     fits : (d : Class) × (main_of files ≡ Some d) × Fits files n.shapes.items t.0 (main_class_instance files d)
     fits = main_law files scopes n is t.0 t.1
 
+pub main_times : (files : List SourceFile) (shapes : List Shape) (shape : Shape) (c : Class) (r : ReactorTree) → AreShapesOfFiles files shapes → slice_get shapes 0 ≡ Some shape → main_of files ≡ Some c → r.parameters ≡ timed_parameters shape → HasParameterTimes files (main_class_instance files c) (core_main r)
+main_times files shapes shape c r are first main parameters = map_alike (λ (p : ParameterTree). nanoseconds p.default) (λ p. time_named files (main_class_instance files c) p.name) r.parameters (λ p m. each p (subst (Mem p) parameters m))
+  where
     of_main : IsShapeOf files shape c
-    of_main = subst (λ d. IsShapeOf files shape d) (same_some (main_of files) fits.0 c fits.1 main) (subst (λ s. IsShapeOf files s fits.0) (same_some (slice_get n.shapes.items 0) fits.2.shape shape fits.2.is_shape at_first) fits.2.of_class)
+    of_main = main_shape files shapes shape c are first main
 
     each : (p : ParameterTree) → Mem p (timed_parameters shape) → nanoseconds p.default ≡ time_named files (main_class_instance files c) p.name
     each p m =
         let one = is_timed_one shape p m in
         one.default ∙ sym (value_there files shape (main_class_instance files c) of_main p one (default_of one.ip.parameter.now) (mapped default_of (parameters_of files c) one.n one.ip.parameter.now (parameter_is files shape c of_main one.n one.ip one.at)))
 
-pub inside_times : (files : List SourceFile) (h : Here) (t u : Valued) (x y : Inside) (core : CoreInside) (m file : ℕ) (i : Instance) (inner : Shape) (r : ReactorTree) (given : List AssignmentTree) → AreShapesOfFiles files h.settings.shapes.items → slice_get h.settings.shapes.items t.shape ≡ Some h.shape → Fits files h.settings.shapes.items t x → slice_get (members_of files x.class) m ≡ Some (file, member.Instance i) → inside h.settings.shapes.items t m ≡ Some u → inside_of files x (file, i) ≡ Some y → HasParameterTimes files x core → AreTimesGiven h m given → ((a : AssignmentTree) → Contains given a → IsKnown core.reactor.parameters a.value) → shape_inside h.settings.shapes.items h.shape m ≡ Some inner → r.parameters ≡ timed_parameters inner → HasParameterTimes files y (record { reactor = r; values = map (core_given_in core given) r.parameters })
-inside_times files h t u x y core m file i inner r given (scopes, n, is, same) is_shape fits at in_u is_y has (child, shape, is_child, is_inner, needed, gives, given_is) known inner_is parameters =
-    subst (λ z. map (core_given_in core given) r.parameters ≡ map (λ p. time_named files z p.name) r.parameters) made_is (map_alike (core_given_in core given) (λ p. time_named files (made_of files x i law.4) p.name) r.parameters (λ p k. ap (λ l. core_given_in core l p) given_is ∙ inner_times files h.shape shape x core child i law.4 of_inner has given_by (λ g k. let j = get_mem g child.given.items k in all_at (IsGiven h.shape shape) child.given.items gives j.0 g j.1) (subst (λ l. (a : AssignmentTree) → Contains l a → IsKnown core.reactor.parameters a.value) given_is known) p (subst (Mem p) (parameters ∙ ap timed_parameters inner_same) k)))
+-- an instance is made of the reactor of the shape in it, with what is given
+pub record IsInsideGiven (files : List SourceFile) (x y : Inside) (child : Child) (shape : Shape) (i : Instance) : Type 0 where
+  pub class : Class
+  pub of_inner : IsShapeOf files shape class
+  pub given_by : IsGivenBy shape child i
+  pub once : GivesEachOnce child.given.items
+  pub gives : GivesOnce i.given.items × AreGiven (thing_named shape) i.given.items child.given.items
+  pub made : made_of files x i class ≡ y
+
+pub inside_given : (files : List SourceFile) (h : Here) (t u : Valued) (x y : Inside) (m file : ℕ) (i : Instance) → AreShapesOfFiles files h.settings.shapes.items → slice_get h.settings.shapes.items t.shape ≡ Some h.shape → Fits files h.settings.shapes.items t x → slice_get (members_of files x.class) m ≡ Some (file, member.Instance i) → inside h.settings.shapes.items t m ≡ Some u → inside_of files x (file, i) ≡ Some y → (child : Child) (shape : Shape) → child_at h.shape.children.items m ≡ Some child → shape_inside h.settings.shapes.items h.shape m ≡ Some shape → IsInsideGiven files x y child shape i
+inside_given files h t u x y m file i (scopes, n, is, same) is_shape fits at in_u is_y child shape is_child is_inner = record { class = law.4; of_inner = of_inner; given_by = given_by; once = given_once files shape law.4 of_inner child i gives.0 gives.1; gives = gives; made = made_is }
   where
     here : Fits files n.shapes.items t x
     here = subst (λ l. Fits files l t x) (sym same) fits
 
-    law : (child : Child) × (child_at here.shape.children.items m ≡ Some child) × (inner : Shape) × (slice_get n.shapes.items child.shape ≡ Some inner) × (c : Class) × (class_named files file (string_bytes i.reactor.text) ≡ Some c) × IsShapeOf files inner c × IsGivenBy inner child i
+    law : (child : Child) × (child_at here.shape.children.items m ≡ Some child) × (inner : Shape) × (slice_get n.shapes.items child.shape ≡ Some inner) × (c : Class) × (class_named files file (string_bytes i.reactor.text) ≡ Some c) × IsShapeOf files inner c × IsGivenBy inner child i × GivesOnce i.given.items × AreGiven (thing_named inner) i.given.items child.given.items
     law = given_law files scopes n is t u x m file i here at (ap (λ l. inside l t m) same ∙ in_u)
 
     outer_same : here.shape ≡ h.shape
@@ -274,14 +287,119 @@ inside_times files h t u x y core m file i inner r given (scopes, n, is, same) i
     shape_same : law.2 ≡ shape
     shape_same = same_some (slice_get h.settings.shapes.items child.shape) law.2 shape (ap (λ l. slice_get l child.shape) (sym same) ∙ ap (λ (c : Child). slice_get n.shapes.items c.shape) (sym child_same) ∙ law.3) shape_at
 
-    inner_same : inner ≡ shape
-    inner_same = same_some (shape_inside h.settings.shapes.items h.shape m) inner shape inner_is is_inner
-
     of_inner : IsShapeOf files shape law.4
     of_inner = subst (λ s. IsShapeOf files s law.4) shape_same law.6
 
     given_by : IsGivenBy shape child i
     given_by = subst (λ s. IsGivenBy s child i) shape_same (subst (λ c. IsGivenBy law.2 c i) child_same law.7)
 
+    gives : GivesOnce i.given.items × AreGiven (thing_named shape) i.given.items child.given.items
+    gives = (law.8, subst (λ (s : Shape). AreGiven (thing_named s) i.given.items child.given.items) shape_same (subst (λ (c : Child). AreGiven (thing_named law.2) i.given.items c.given.items) child_same law.9))
+
     made_is : made_of files x i law.4 ≡ y
     made_is = Some_same (made_of files x i law.4) y (sym (ap (option_map (made_of files x i)) law.5) ∙ is_y)
+
+pub inside_times : (files : List SourceFile) (h : Here) (t u : Valued) (x y : Inside) (core : CoreInside) (m file : ℕ) (i : Instance) (inner : Shape) (r : ReactorTree) (given : List AssignmentTree) → AreShapesOfFiles files h.settings.shapes.items → slice_get h.settings.shapes.items t.shape ≡ Some h.shape → Fits files h.settings.shapes.items t x → slice_get (members_of files x.class) m ≡ Some (file, member.Instance i) → inside h.settings.shapes.items t m ≡ Some u → inside_of files x (file, i) ≡ Some y → HasParameterTimes files x core → AreTimesGiven h m given → ((a : AssignmentTree) → Contains given a → IsKnown core.reactor.parameters a.value) → shape_inside h.settings.shapes.items h.shape m ≡ Some inner → r.parameters ≡ timed_parameters inner → HasParameterTimes files y (record { reactor = r; values = map (core_given_in core given) r.parameters })
+inside_times files h t u x y core m file i inner r given are is_shape fits at in_u is_y has (child, shape, is_child, is_inner, needed, gives, given_is) known inner_is parameters =
+    let g = inside_given files h t u x y m file i are is_shape fits at in_u is_y child shape is_child is_inner in
+    let inner_same : inner ≡ shape = same_some (shape_inside h.settings.shapes.items h.shape m) inner shape inner_is is_inner in
+    subst (λ z. map (core_given_in core given) r.parameters ≡ map (λ p. time_named files z p.name) r.parameters) g.made (map_alike (core_given_in core given) (λ p. time_named files (made_of files x i g.class) p.name) r.parameters (λ p k. ap (λ l. core_given_in core l p) given_is ∙ inner_times files h.shape shape x core child i g.class g.of_inner has g.given_by (λ z k. let j = get_mem z child.given.items k in all_at (IsGiven h.shape shape) child.given.items gives j.0 z j.1) (subst (λ l. (a : AssignmentTree) → Contains l a → IsKnown core.reactor.parameters a.value) given_is known) p (subst (Mem p) (parameters ∙ ap timed_parameters inner_same) k)))
+
+-- ---- values that are times
+
+-- a time that is written out is one
+written_time : (v : WrittenValue) → IsWrittenTime v → IsTimeValue v
+written_time (value.Number false count (Some unit)) is = is
+written_time (value.Number false zero None) is = tt
+written_time (value.Number false (suc n) None) is = absurd is
+written_time (value.Number true n unit) is = absurd is
+written_time (value.Word q) is = absurd is
+written_time value.Code is = absurd is
+written_time value.Other is = absurd is
+
+-- what can be read as a time has one as value
+pub time_read : (files : List SourceFile) (x : Inside) (ps : List ParameterTree) (shape : Shape) (v : WrittenValue) → HaveTimeValues files x ps → IsTime shape v → ((t : TimeTree) → time_for v ≡ Some t → IsKnown ps t) → IsSomeAnd (read_in files x v) IsTimeValue
+time_read files x ps shape (value.Word q) has is known =
+    let m = mem_from_map (λ (p : ParameterTree). p.name) ps (string_bytes q) (contains_mem (string_bytes q) (map (λ (p : ParameterTree). p.name) ps) (known (Named (string_bytes q)) refl)) in
+    subst (λ n. IsSomeAnd (value_named files x n) IsTimeValue) m.2 (has m.0 (mem_contains m.0 ps m.1))
+time_read files x ps shape (value.Number negative n unit) has is known = written_time (value.Number negative n unit) is
+time_read files x ps shape value.Code has is known = absurd is
+time_read files x ps shape value.Other has is known = absurd is
+
+pub time_is_in : (files : List SourceFile) (x : Inside) (ps : List ParameterTree) (shape : Shape) (e : Option Expression) → HaveTimeValues files x ps → IsRead shape e → ((t : TimeTree) → time_at e ≡ Some t → IsKnown ps t) → IsTimeIn files x e
+time_is_in files x ps shape None has is known = tt
+time_is_in files x ps shape (Some e) has is known = time_read files x ps shape e.value has is known
+
+pub period_is_in : (files : List SourceFile) (x : Inside) (ps : List ParameterTree) (shape : Shape) (e : Option Expression) → HaveTimeValues files x ps → IsPeriod shape e → ((t : TimeTree) → period_at e ≡ Some t → IsKnown ps t) → IsPeriodIn files x e
+period_is_in files x ps shape None has is known = tt
+period_is_in files x ps shape (Some e) has is known = go (is_forever e.value) refl is known
+  where
+    go : (b : Bool) → is_forever e.value ≡ b → (b ≡ false → IsTime shape e.value) → ((t : TimeTree) → (if b then None else time_for e.value) ≡ Some t → IsKnown ps t) → is_forever e.value ≡ false → IsTimeIn files x (Some e)
+    go true f is known = λ other. absurd (let z : true ≡ false = sym f ∙ other in cc)
+    go false f is known = λ other. time_read files x ps shape e.value has (is refl) known
+
+module _ (files : List SourceFile) (shape : Shape) (x : Inside) (is : IsShapeOf files shape x.class) where
+  -- the value of a parameter is the one at its place
+  value_at : (p : ParameterTree) (one : IsTimed shape p) (v : Option WrittenValue) → slice_get x.values one.n ≡ Some v → value_named files x p.name ≡ v
+  value_at p one v has = ap (value_named files x) one.name ∙ value_found files shape x is (string_bytes one.ip.parameter.now.name.text) one.n v ((is.names (string_bytes one.ip.parameter.now.name.text) (thing.Parameter one.n)).1 (one.ip, one.at, refl)) has
+
+-- a default is a time, or it is left out
+default_time_is : (main : Bool) (shape : Shape) (p : ParameterTree) (one : IsTimed shape p) → HasDefault main shape one.n → (o : Option Expression) → one.ip.parameter.now.default ≡ o → (o ≡ None → main ≡ false → ⊥) → IsSomeAnd (option_map (λ (e : Expression). e.value) o) IsTimeValue
+default_time_is main shape p one has o e left = go o e left (subst (λ z. IsDefault main z) e (here.1))
+  where
+    here : (one.ip.parameter.now.is_time ≡ true) × IsDefault main one.ip.parameter.now.default
+    here = subst (λ (z : Option InheritedParameter). IfSome z (λ q. (q.parameter.now.is_time ≡ true) × IsDefault main q.parameter.now.default)) one.at (has one.timed)
+
+    go : (o : Option Expression) → one.ip.parameter.now.default ≡ o → (o ≡ None → main ≡ false → ⊥) → IsDefault main o → IsSomeAnd (option_map (λ (e : Expression). e.value) o) IsTimeValue
+    go None e left is = absurd (left refl is)
+    go (Some v) e left is = written_time v.value is
+
+-- the parameters of the main reactor have times
+pub main_values : (files : List SourceFile) (shapes : List Shape) (shape : Shape) (c : Class) (r : ReactorTree) → AreShapesOfFiles files shapes → slice_get shapes 0 ≡ Some shape → main_of files ≡ Some c → r.parameters ≡ timed_parameters shape → (main : Bool) → main ≡ true → ((n : ℕ) → HasDefault main shape n) → HaveTimeValues files (main_class_instance files c) r.parameters
+main_values files shapes shape c r are first main parameters is_main main_true defaults p m = subst (λ o. IsSomeAnd o IsTimeValue) (sym value_is) (default_time_is is_main shape p one (defaults one.n) one.ip.parameter.now.default refl (λ e f. let z : true ≡ false = sym main_true ∙ f in cc))
+  where
+    of_main : IsShapeOf files shape c
+    of_main = main_shape files shapes shape c are first main
+
+    one : IsTimed shape p
+    one = is_timed_one shape p (subst (Mem p) parameters (contains_mem p r.parameters m))
+
+    value_is : value_named files (main_class_instance files c) p.name ≡ default_of one.ip.parameter.now
+    value_is = value_at files shape (main_class_instance files c) of_main p one (default_of one.ip.parameter.now) (mapped default_of (parameters_of files c) one.n one.ip.parameter.now (parameter_is files shape c of_main one.n one.ip one.at))
+
+-- so have those of the reactor that `new` names
+inner_values : (files : List SourceFile) (outer inner : Shape) (x : Inside) (ps : List ParameterTree) (child : Child) (i : Instance) (c : Class) (main : Bool) → IsShapeOf files inner c → HaveTimeValues files x ps → IsGivenBy inner child i → ((g : GivenValue) → Mem g child.given.items → IsGiven outer inner g) → ((a : AssignmentTree) → Contains (given_times inner child) a → IsKnown ps a.value) → GivesEachOnce child.given.items → GivesNeeded inner child → ((n : ℕ) → HasDefault main inner n) → (p : ParameterTree) → Mem p (timed_parameters inner) → IsSomeAnd (value_named files (made_of files x i c) p.name) IsTimeValue
+inner_values files outer inner x ps child i c main of_inner has given_by gives known once needed defaults p stands = subst (λ o. IsSomeAnd o IsTimeValue) (sym value_is) (picked (find (λ a. is_named (written_name one.ip) a.name) i.given.items) refl)
+  where
+    one : IsTimed inner p
+    one = is_timed_one inner p stands
+
+    value_is : value_named files (made_of files x i c) p.name ≡ value_given_in files x i.given.items one.ip.parameter.now
+    value_is = value_at files inner (made_of files x i c) of_inner p one (value_given_in files x i.given.items one.ip.parameter.now) (mapped (value_given_in files x i.given.items) (parameters_of files c) one.n one.ip.parameter.now (parameter_is files inner c of_inner one.n one.ip one.at))
+
+    is_found : IsFound outer inner one.n one.ip one.at one.timed (alone files inner (made_of files x i c) of_inner one.n one.ip one.at) (given_to child.given.items one.n) (find (λ a. bytes_eq (written_name one.ip) a.name) (given_times inner child))
+    is_found = found outer inner one.n one.ip one.at one.timed (alone files inner (made_of files x i c) of_inner one.n one.ip one.at) child.given.items gives
+
+    bare : one.ip.parameter.now.default ≡ None → is_needed inner one.n ≡ true
+    bare e =
+        let a : is_bare one.ip ≡ true = ap (λ (o : Option Expression). not (is_some o)) e in
+        ap (λ o. unwrap_or (option_map is_bare o) false && is_timed inner one.n) one.at ∙ ap (λ b. b && is_timed inner one.n) a ∙ one.timed
+
+    picked : (o : Option Assignment) → find (λ a. is_named (written_name one.ip) a.name) i.given.items ≡ o → IsSomeAnd (value_or_default files x one.ip.parameter.now o) IsTimeValue
+    picked None e =
+        let g : given_to child.given.items one.n ≡ None = given_by one.n one.ip one.at ∙ ap (option_map (λ (a : Assignment). a.value.value)) e in
+        default_time_is main inner p one (defaults one.n) one.ip.parameter.now.default refl (λ lacks _. needed once (one.n, bare lacks, g))
+    picked (Some a) e =
+        let g : given_to child.given.items one.n ≡ Some a.value.value = given_by one.n one.ip one.at ∙ ap (option_map (λ (a : Assignment). a.value.value)) e in
+        let f : (t : TimeTree) × (time_for a.value.value ≡ Some t) × (find (λ a. bytes_eq (written_name one.ip) a.name) (given_times inner child) ≡ Some (given_tree outer inner one.n one.ip one.at one.timed (alone files inner (made_of files x i c) of_inner one.n one.ip one.at) one.ip t)) = subst (λ o. IsFound outer inner one.n one.ip one.at one.timed (alone files inner (made_of files x i c) of_inner one.n one.ip one.at) o (find (λ a. bytes_eq (written_name one.ip) a.name) (given_times inner child))) g is_found in
+        let b : AssignmentTree = record { name = (written_name one.ip); value = f.0 } in
+        let k : IsKnown ps f.0 = known b (mem_contains b (given_times inner child) (find_some (λ (a : AssignmentTree). bytes_eq (written_name one.ip) a.name) (given_times inner child) b f.2).0) in
+        let s = to_some child.given.items one.n a.value.value g in
+        let is_time : IsTime outer a.value.value = subst (IsTime outer) s.3 (gives s.0 s.1 (ap (is_timed inner) s.2 ∙ one.timed)).1 in
+        time_read files x ps outer a.value.value has is_time (λ t h. subst (IsKnown ps) (Some_same f.0 t (sym f.1 ∙ h)) k)
+
+pub inside_values : (files : List SourceFile) (h : Here) (t u : Valued) (x y : Inside) (ps : List ParameterTree) (m file : ℕ) (i : Instance) (inner : Shape) (r : ReactorTree) (given : List AssignmentTree) (main : Bool) → AreShapesOfFiles files h.settings.shapes.items → slice_get h.settings.shapes.items t.shape ≡ Some h.shape → Fits files h.settings.shapes.items t x → slice_get (members_of files x.class) m ≡ Some (file, member.Instance i) → inside h.settings.shapes.items t m ≡ Some u → inside_of files x (file, i) ≡ Some y → HaveTimeValues files x ps → AreTimesGiven h m given → ((a : AssignmentTree) → Contains given a → IsKnown ps a.value) → shape_inside h.settings.shapes.items h.shape m ≡ Some inner → r.parameters ≡ timed_parameters inner → ((n : ℕ) → HasDefault main inner n) → HaveTimeValues files y r.parameters
+inside_values files h t u x y ps m file i inner r given main are is_shape fits at in_u is_y has (child, shape, is_child, is_inner, needed, gives, given_is) known inner_is parameters defaults p k =
+    let g = inside_given files h t u x y m file i are is_shape fits at in_u is_y child shape is_child is_inner in
+    let inner_same : inner ≡ shape = same_some (shape_inside h.settings.shapes.items h.shape m) inner shape inner_is is_inner in
+    subst (λ z. IsSomeAnd (value_named files z p.name) IsTimeValue) g.made (inner_values files h.shape shape x ps child i g.class main g.of_inner has g.given_by (λ z k. let j = get_mem z child.given.items k in all_at (IsGiven h.shape shape) child.given.items gives j.0 z j.1) (subst (λ l. (a : AssignmentTree) → Contains l a → IsKnown ps a.value) given_is known) g.once needed (subst (λ z. (n : ℕ) → HasDefault main z n) inner_same defaults) p (subst (Mem p) (parameters ∙ ap timed_parameters inner_same) (contains_mem p r.parameters k)))

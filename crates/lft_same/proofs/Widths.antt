@@ -10,6 +10,12 @@ use Rattle.lft_elaborate.specs.inner.{Places.width_in, Settings.setting_at, Used
 use Rattle.lft_lower.specs.inner.Reactors.{AreShapesOfFiles, IsLowering}
 use Rattle.lft_same.specs.{Expanded.{Instances.Widths, Whole.AreWidths}, inner.Fits.Widths.{AreFound, AreThose, small}}
 use Rattle.lft_same.proofs.{FitsLemmas.Found.widths_law, Instances.AreWidthsFound}
+use Rattle.lft_lists.proofs.Mapped.{mapped_from}
+use Rattle.lft_whole.specs.declared.tree.{Member.Member, Width.Width}
+use Rattle.lft_classes.specs.{declared.shapes.Inherited.Inherited, Shapes.width_of}
+use Rattle.lft_elaborate.specs.inner.Places.{written_width}
+use Rattle.lft_same.specs.Expanded.{Instances.Inside, Reactors.members_of, Taken.widths_from}
+use Rattle.lft_same.proofs.{FitsLemmas.Widths.{width_is, width_is_written}, Settings.{HasSetting, nested, reached}}
 use Rattle.lft_same.proofs.Reached.{HasInstance, found_at, found_small, found_written, reached_instance}
 
 -- what holds of each at some depth, and at each greater one, holds of all at one depth
@@ -27,11 +33,11 @@ widths_at files shapes (scopes, n, is, same) = subst (λ l. (t : Valued) (depth 
 
 module _ (files : List SourceFile) (tree : Ast) (low : IsLowering files tree) (none : NoneHolds (causes (tree_view tree))) where
   -- a width that was found is found in so many steps, and it is small
-  abbrev IsDeep : ℕ → ℕ → Valued → ℕ → Type 0
+  abbrev pub IsDeep : ℕ → ℕ → Valued → ℕ → Type 0
   IsDeep k m t depth = (c : ℕ) → found_width low.settings k m ≡ Some c → (d : ℕ) × (d ≤ depth) × (width_in low.settings.shapes.items d t m ≡ Some c) × (c < small)
 
   -- so is each of a setting that instances have
-  abbrev AreDeep : ℕ → Valued → ℕ → Type 0
+  abbrev pub AreDeep : ℕ → Valued → ℕ → Type 0
   AreDeep k t depth = (m : ℕ) → IsDeep k m t depth
 
   deep_one : (k m : ℕ) (t : Valued) (h : HasInstance files tree low none t) → h.is.number ≡ k → (d : ℕ) × IsDeep k m t d
@@ -66,11 +72,11 @@ module _ (files : List SourceFile) (tree : Ast) (low : IsLowering files tree) (n
       known : (m c : ℕ) → found_width low.settings k m ≡ Some c → m < length h.is.shape.members.items
       known m c e = (found_at files tree low t h.core.reactor h.is m c (ap (λ k. found_width low.settings k m) same ∙ e)).0
 
-  abbrev AllDeep : ℕ → ℕ → Type 0
+  abbrev pub AllDeep : ℕ → ℕ → Type 0
   AllDeep i depth = (k : ℕ) (t : Valued) → slice_get low.used i ≡ Some k → setting_at low.settings k ≡ Some t → AreDeep k t depth
 
   -- all are found in so many steps
-  depth : (d : ℕ) × ((i : ℕ) → i < length low.used → AllDeep i d)
+  pub depth : (d : ℕ) × ((i : ℕ) → i < length low.used → AllDeep i d)
   depth = most (length low.used) AllDeep grows each
     where
       grows : (i d e : ℕ) → d ≤ e → AllDeep i d → AllDeep i e
@@ -99,3 +105,13 @@ module _ (files : List SourceFile) (tree : Ast) (low : IsLowering files tree) (n
       let main = low.program.settings.main in
       let w = widths_at files low.settings.shapes.items low.program.shapes main.0 depth.0 main.1 are_found in
       (w.0, w.1, λ k t y m c used is_setting fits e. let d = deep_at used.0 k t used.1 is_setting m c e in w.2 t y m d.0 c fits d.1 d.2 d.3)
+
+  -- and each is found in so many steps, whatever widths there are to begin with
+  pub in_steps : (w : Widths) → AreWidthsFound files tree low w → (v : Widths) (x : Inside) (s : HasSetting files tree low x) (k : ℕ) (m : ℕ × Member) (width : Width) → slice_get (members_of files x.class) k ≡ Some m → width_of m.1 ≡ Some width → widths_from files v depth.0 x k ≡ w x k
+  in_steps w found v x s k m width at wide =
+      let own = mapped_from (λ (i : Inherited). (i.file, i.member.now)) s.fits.shape.members.items k m (ap (λ l. slice_get l k) s.fits.of_class.members ∙ at) in
+      let written : written_width low.settings.shapes.items s.setting k ≡ Some width = width_is_written files low.settings.shapes.items s.setting x s.fits k own.0 own.1 ∙ ap (λ (q : ℕ × Member). width_of q.1) own.2 ∙ wide in
+      let h = reached_instance files tree low none s.setting (reached files tree low x s) in
+      let c = found_written files tree low s.setting h.core.reactor h.is k width written in
+      let d = deep_at h.is.used.0 h.is.number s.setting h.is.used.1 h.is.is_setting k c.0 c.1 in
+      width_is files low.settings.shapes.items (nested files tree low) v d.0 depth.0 d.1 s.setting x s.fits k c.0 d.2 d.3 ∙ sym (found h.is.number s.setting x k c.0 h.is.used h.is.is_setting s.fits c.1)

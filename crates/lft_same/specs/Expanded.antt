@@ -3,4 +3,5 @@ pub mod Flat
 pub mod Instances
 pub mod Reactors
 pub mod Same
+pub mod Taken
 pub mod Whole

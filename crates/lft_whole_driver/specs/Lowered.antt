@@ -3,7 +3,7 @@ use Rattle.std.specs.Prelude.{ℕ, IsSomeAnd, List, slice_get}
 use Rattle.lft_ir.specs.Parts.{Parts}
 use Rattle.lft_whole_parser.specs.Imports.{Files.{AreOfTexts, AreReachedFiles, EachOnce, IsFileOf, IsWhole, paths_of_files}, Paths.normal}
 use Rattle.lft_load.specs.Meaning.{IsOnly}
-use Rattle.lft_same.specs.Expanded.{Expanded.Expanded, Flat.IsFlat, Same.IsSame}
+use Rattle.lft_same.specs.Expanded.{Expanded.Expanded, Flat.IsFlat, Same.IsSame, Taken.IsTaken}
 use Rattle.lft_whole.specs.declared.sources.source.SourceFile.{SourceFile}
 
 -- The first of the files has this path, and is read from this text.
@@ -22,9 +22,9 @@ pub record AreFilesOf (path text : List ℕ) (files : List SourceFile) : Type 0 
   pub lead : LeadTo files (paths_of_files files)
   pub whole : IsWhole files
 
--- The program is the one flat program of the whole program of these files, written out.
+-- The program is the one flat program of the whole program of these files, written out; and that one is taken: all that its instances have is something.
 abbrev pub IsOfFiles : List SourceFile → Parts → Type 0
-IsOfFiles files program = (expanded : Expanded) × IsSame files expanded × IsOnly (IsFlat expanded) program
+IsOfFiles files program = (expanded : Expanded) × (same : IsSame files expanded) × IsTaken files same.widths × IsOnly (IsFlat expanded) program
 
 -- So it is of the files of this path and this text.
 abbrev pub IsProgramOfFiles : List ℕ → List ℕ → Parts → Type 0

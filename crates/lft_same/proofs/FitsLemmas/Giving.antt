@@ -13,14 +13,14 @@ use Rattle.lft_same.{specs.{Expanded.Reactors.is_named, inner.Fits.Fits.IsShapeO
 use Rattle.lft_classes.specs.declared.shapes.OwnThing.TheVariants as thing
 
 -- what is given to a parameter is noted
-to_some : (gs : List GivenValue) (p : ℕ) (v : WrittenValue) → given_to gs p ≡ Some v → (g : GivenValue) × Mem g gs × (g.parameter ≡ p) × (g.value.now.value ≡ v)
+pub to_some : (gs : List GivenValue) (p : ℕ) (v : WrittenValue) → given_to gs p ≡ Some v → (g : GivenValue) × Mem g gs × (g.parameter ≡ p) × (g.value.now.value ≡ v)
 to_some [] p v e = absurd (cc)
 to_some (g ∷ gs) p v e = elim (eqb_tells g.parameter p) [
   | inl same ↦ (g, inl refl, same.1, Some_same g.value.now.value v (sym (ap (λ (b : Bool). if b then Some g.value.now.value else given_to gs p) same.0) ∙ e))
   | inr other ↦ let r = to_some gs p v (sym (ap (λ (b : Bool). if b then Some g.value.now.value else given_to gs p) other.0) ∙ e) in (r.0, inr r.1, r.2, r.3)
 ]
 
-to_none : (gs : List GivenValue) (p : ℕ) (g : GivenValue) → given_to gs p ≡ None → Mem g gs → g.parameter ≡ p → ⊥
+pub to_none : (gs : List GivenValue) (p : ℕ) (g : GivenValue) → given_to gs p ≡ None → Mem g gs → g.parameter ≡ p → ⊥
 to_none [] p g e m is = absurd m
 to_none (h ∷ gs) p g e m is = elim (eqb_tells h.parameter p) [
   | inl same ↦ (let s : Some h.value.now.value ≡ None = sym (ap (λ (b : Bool). if b then Some h.value.now.value else given_to gs p) same.0) ∙ e in cc)
@@ -54,7 +54,7 @@ abbrev pub IsGivenBy : Shape → Child → Instance → Type 0
 IsGivenBy inner child i = (p : ℕ) (ip : InheritedParameter) → slice_get inner.parameters.items p ≡ Some ip → given_to child.given.items p ≡ option_map (λ a. a.value.value) (find (λ a. is_named (string_bytes ip.parameter.now.name.text) a.name) i.given.items)
 
 -- no name is given two values
-unique : (given : List Assignment) → GivesOnce given → (j k : ℕ) (a b : Assignment) → slice_get given j ≡ Some a → slice_get given k ≡ Some b → string_bytes a.name.text ≡ string_bytes b.name.text → j ≡ k
+pub unique : (given : List Assignment) → GivesOnce given → (j k : ℕ) (a b : Assignment) → slice_get given j ≡ Some a → slice_get given k ≡ Some b → string_bytes a.name.text ≡ string_bytes b.name.text → j ≡ k
 unique given gives j k a b at is same = go (dec_lt j k) (dec_lt k j)
   where
     go : Dec (j < k) → Dec (k < j) → j ≡ k

@@ -68,8 +68,8 @@ module _ (files : List SourceFile) (scopes : _) (n : Nesting) (is : IsNesting fi
       shape = mapped_from core n.shapes.items 0 first.0 first.1
 
   -- what stands of an instance: the shape in it, its reactor, and what is given to its parameters
-  pub given_law : (t u : Valued) (x : Inside) (m file : ℕ) (i : Instance) (fits : Fits files n.shapes.items t x) → slice_get (members_of files x.class) m ≡ Some (file, member.Instance i) → inside n.shapes.items t m ≡ Some u → (child : Child) × (child_at fits.shape.children.items m ≡ Some child) × (inner : Shape) × (slice_get n.shapes.items child.shape ≡ Some inner) × (c : Class) × (class_named files file (string_bytes i.reactor.text) ≡ Some c) × IsShapeOf files inner c × IsGivenBy inner child i
-  given_law t u x m file i fits at in_u = (child.0, child.1, inner.0, inner.1, c.0, c.1, of_inner, given)
+  pub given_law : (t u : Valued) (x : Inside) (m file : ℕ) (i : Instance) (fits : Fits files n.shapes.items t x) → slice_get (members_of files x.class) m ≡ Some (file, member.Instance i) → inside n.shapes.items t m ≡ Some u → (child : Child) × (child_at fits.shape.children.items m ≡ Some child) × (inner : Shape) × (slice_get n.shapes.items child.shape ≡ Some inner) × (c : Class) × (class_named files file (string_bytes i.reactor.text) ≡ Some c) × IsShapeOf files inner c × IsGivenBy inner child i × GivesOnce i.given.items × AreGiven (thing_named inner) i.given.items child.given.items
+  given_law t u x m file i fits at in_u = (child.0, child.1, inner.0, inner.1, c.0, c.1, of_inner, given, gives.0, gives.1)
     where
       outer : inside n.shapes.items t m ≡ option_and_then (setting_of n.shapes.items fits.shape t.values) (child_at fits.shape.children.items m)
       outer = ap (option_and_then (λ outer. option_and_then (setting_of n.shapes.items outer t.values) (child_at outer.children.items m))) fits.is_shape
@@ -113,7 +113,7 @@ module _ (files : List SourceFile) (scopes : _) (n : Nesting) (is : IsNesting fi
   -- what is inside fits what is inside
   pub inside_law : (t u : Valued) (x : Inside) (m file : ℕ) (i : Instance) → Fits files n.shapes.items t x → slice_get (members_of files x.class) m ≡ Some (file, member.Instance i) → inside n.shapes.items t m ≡ Some u → (y : Inside) × (inside_of files x (file, i) ≡ Some y) × Fits files n.shapes.items u y
   inside_law t u x m file i fits at in_u =
-      let (child, is_child, inner, is_inner, c, means, of_inner, given) = given_law t u x m file i fits at in_u in
+      let (child, is_child, inner, is_inner, c, means, of_inner, given, once, are) = given_law t u x m file i fits at in_u in
       inside_fits files n.shapes.items t u x fits m child inner file i c in_u is_child is_inner means of_inner given
 
   -- what is noted in a member, which is an instance

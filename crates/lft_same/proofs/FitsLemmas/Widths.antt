@@ -16,6 +16,7 @@ use Rattle.lft_elaborate.specs.{Places.natural, declared.meanings.Meaning.Meanin
 use Rattle.lft_classes.specs.{declared.shapes.{Inherited.Inherited, Shape.Shape, OwnThing.OwnThing}, Shapes.{name_of, width_of}, inner.Shapes.thing_named}
 use Rattle.lft_same.specs.Expanded.Instances.{Inner, Inside, Widths, entered_instance, inners, inners_at, inside_of, main_class_instance, number_of, numbers, numbers_at, numbers_named, place_named, name_with_number}
 use Rattle.lft_same.specs.Expanded.{Reactors.{Class, main_of, members_of}, Whole.{AreWidths, channels, term_of_width, things_named, total_width}}
+use Rattle.lft_same.specs.Expanded.Taken.{widths_from}
 use Rattle.lft_same.specs.inner.Fits.{Fits.Fits, Widths.{AreFound, small}}
 use Rattle.lft_same.proofs.FitsLemmas.{Channels.channels_length, Fitting.number_fits, MemberNames.{member_found, member_lost}}
 use Rattle.lft_same.proofs.FitsLemmas.Ports.{IsPort, port_is, shape_is_inside}
@@ -216,14 +217,12 @@ module _ (files : List SourceFile) (shapes : List Shape) (nested : AreNested fil
 
 -- ---- the widths of a program
 
--- the sum of the terms at a member, where the widths that these hang on are so
-abbrev pub next_width : List SourceFile → Widths → Inside → ℕ → ℕ
-next_width files w x m = unwrap_or (option_and_then (λ (y : ℕ × Member). option_and_then (λ (width : Width). total_width (map (λ (z : Term). term_of_width files w x z.count) width.terms.items)) (width_of y.1)) (slice_get (members_of files x.class) m)) 0
+abbrev pub nothing : Widths
+nothing x m = 0
 
 -- the widths that are found in so many steps
 abbrev pub widths_to : List SourceFile → ℕ → Widths
-widths_to files zero x m = 0
-widths_to files (suc d) x m = next_width files (widths_to files d) x m
+widths_to files d = widths_from files nothing d
 
 module _ (files : List SourceFile) (shapes : List Shape) (nested : AreNested files shapes) where
   -- a width that is written stands at a member
@@ -232,15 +231,16 @@ module _ (files : List SourceFile) (shapes : List Shape) (nested : AreNested fil
       let i = then_some (λ (found : Inherited). width_of found.member.now) (member_in shapes t m) width e in
       (i.0, sym (ap (option_and_then (λ (s : Shape). slice_get s.members.items m)) fits.is_shape) ∙ i.1, i.2)
 
-  pub width_is : (d e : ℕ) → d ≤ e → (t : Valued) (x : Inside) → Fits files shapes t x → (m n : ℕ) → width_in shapes d t m ≡ Some n → n < small → widths_to files e x m ≡ n
-  width_is zero e le t x fits m n is l = absurd (cc)
-  width_is (suc d) zero le t x fits m n is l = absurd (omega (arith, le))
-  width_is (suc d) (suc e) le t x fits m n is l =
-      let width = then_some (λ (v : Width). sum_in shapes (width_in shapes d) t v.terms.items) (written_width shapes t m) n is in
+  -- a width that is found is found in the language, whatever widths there are to begin with
+  pub width_is : (v : Widths) (d e : ℕ) → d ≤ e → (t : Valued) (x : Inside) → Fits files shapes t x → (m n : ℕ) → width_in shapes d t m ≡ Some n → n < small → widths_from files v e x m ≡ n
+  width_is v zero e le t x fits m n is l = absurd (cc)
+  width_is v (suc d) zero le t x fits m n is l = absurd (omega (arith, le))
+  width_is v (suc d) (suc e) le t x fits m n is l =
+      let width = then_some (λ (z : Width). sum_in shapes (width_in shapes d) t z.terms.items) (written_width shapes t m) n is in
       let i = written_at t x fits m width.0 width.1 in
-      let s = sum_is files shapes nested d (widths_to files e) (width_is d e (omega (arith, le))) t x fits width.0.terms.items n width.2 l in
-      ap (λ o. unwrap_or (option_and_then (λ (y : ℕ × Member). option_and_then (λ (v : Width). total_width (map (λ (z : Term). term_of_width files (widths_to files e) x z.count) v.terms.items)) (width_of y.1)) o) 0) (member_is files shapes t x fits m i.0 i.1)
-      ∙ ap (λ o. unwrap_or (option_and_then (λ (v : Width). total_width (map (λ (z : Term). term_of_width files (widths_to files e) x z.count) v.terms.items)) o) 0) i.2
+      let s = sum_is files shapes nested d (widths_from files v e) (width_is v d e (omega (arith, le))) t x fits width.0.terms.items n width.2 l in
+      ap (λ o. unwrap_or (option_and_then (λ (y : ℕ × Member). option_and_then (λ (u : Width). total_width (map (λ (z : Term). term_of_width files (widths_from files v e) x z.count) u.terms.items)) (width_of y.1)) o) 0) (member_is files shapes t x fits m i.0 i.1)
+      ∙ ap (λ o. unwrap_or (option_and_then (λ (u : Width). total_width (map (λ (z : Term). term_of_width files (widths_from files v e) x z.count) u.terms.items)) o) 0) i.2
       ∙ ap (λ o. unwrap_or o 0) s
 
   module _ (depth : ℕ) (found : AreFound shapes depth) where
@@ -298,7 +298,7 @@ module _ (files : List SourceFile) (shapes : List Shape) (nested : AreNested fil
                 is_many None q n k = (1, (0, ap (many (width_in shapes 0 t m)) (wide ∙ q)), is_one 1 refl)
                 is_many (Some v) q n k =
                     let h = found t m v reached (wide ∙ q) in
-                    let e : widths_to files depth x m ≡ h.1 = width_is h.0 depth h.2 t x fits m h.1 h.3 h.4 in
+                    let e : widths_to files depth x m ≡ h.1 = width_is nothing h.0 depth h.2 t x fits m h.1 h.3 h.4 in
                     let c = mem_from_map Some (below (widths_to files depth x m)) n (subst (λ o. Mem n (numbers o (widths_to files depth x m))) q k) in
                     (h.1, (h.0, ap (many (width_in shapes h.0 t m)) (wide ∙ q) ∙ h.3), some (widths_to files depth x m) h.1 c.0 e c.1)
                   where
@@ -337,5 +337,5 @@ module _ (files : List SourceFile) (shapes : List Shape) (nested : AreNested fil
             steps zero le e = absurd (cc)
             steps (suc d) le e =
                 let s : sum_in shapes (width_in shapes d) u width.terms.items ≡ Some h.1 = sym (ap (option_and_then (λ (v : Width). sum_in shapes (width_in shapes d) u v.terms.items)) written) ∙ e in
-                sum_is files shapes nested d (widths_to files depth) (width_is d depth (omega (arith, le))) u x fits width.terms.items h.1 s h.4
-                ∙ ap Some (sym (width_is (suc d) depth le u x fits k h.1 e h.4))
+                sum_is files shapes nested d (widths_to files depth) (width_is nothing d depth (omega (arith, le))) u x fits width.terms.items h.1 s h.4
+                ∙ ap Some (sym (width_is nothing (suc d) depth le u x fits k h.1 e h.4))

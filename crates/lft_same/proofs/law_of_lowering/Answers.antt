@@ -1,4 +1,4 @@
-use Rattle.lft_same.proofs.Same.{lowered_law}
+use Rattle.lft_same.proofs.Taken.{lowered_law}
 use Rattle.lft_same.proofs.law_of_lowering.Goals as goal
 
 pub returns : goal.returns

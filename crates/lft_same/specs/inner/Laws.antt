@@ -9,7 +9,7 @@ use Rattle.lft_elaborate.specs.inner.{Meanings.shape_inside, Values.{Valued, ins
 use Rattle.lft_lower.specs.inner.{Meanings.Meanings.Here, Lowered.{AreTimesGiven, IsPeriod, IsRead, period_at, time_at}}
 use Rattle.lft_lower.specs.inner.Reactors.{AreShapesOfFiles, IsLowering, timed_parameters}
 use Rattle.lft_same.specs.Expanded.{Instances.{Inside, inside_of, main_class_instance, period_in, time_written_in}, Reactors.{Class, main_of, members_of}}
-use Rattle.lft_same.specs.Expanded.Same.{IsSame}
+use Rattle.lft_same.specs.Expanded.{Same.IsSame, Taken.IsTaken}
 use Rattle.lft_same.specs.inner.{Expanded.Core.expanded_tree, Fits.Fits.Fits, Times.{HasParameterTimes, IsKnown}}
 use Rattle.lft_whole.specs.declared.tree.Member.TheVariants as member
 
@@ -33,6 +33,6 @@ PeriodLaw files = (x : Inside) (core : CoreInside) (shape : Shape) (e : _) → H
 abbrev pub KnownLaw : Type 0
 KnownLaw = (tree : FileTree) (r : ReactorTree) (t : TimeTree) → NoneHolds (causes tree) → Contains (reactors_of tree) r → Contains (times_in r) t → IsKnown r.parameters t
 
--- A tree to which a program is lowered, and of which no cause of refusal holds, is the whole program.
+-- A tree to which a program is lowered, and of which no cause of refusal holds, is the whole program, and that is taken.
 abbrev pub LoweredLaw : List SourceFile → Type 0
-LoweredLaw files = (tree : Ast) → IsLowering files tree → NoneHolds (causes (tree_view tree)) → IsSame files (expanded_tree (tree_view tree))
+LoweredLaw files = (tree : Ast) → IsLowering files tree → NoneHolds (causes (tree_view tree)) → (same : IsSame files (expanded_tree (tree_view tree))) × IsTaken files same.widths
