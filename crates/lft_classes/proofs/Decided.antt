@@ -1,12 +1,14 @@
 -- Which parameters reactors need.
 use Rattle.std.proofs.Common.{◌≡◌, ◌≢◌, ◌↔◌, ◌⊎◌, ◌<◌, ◌+◌, ℕ, Bool, true, inl, inr, List, Option, Some, Vec, length, option_map, slice_get, slice_set, string_bytes, refl, sym, ap, subst, ◌∙◌, arith}
+use Rattle.std.specs.Prelude.{codes}
 use Rattle.std.{specs.{Global.Global, Option.option_and_then}, proofs.lemmas.{Bool.cases_eq, Option.slice_get_within}}
 use Rattle.lft_lists.proofs.Mapped.{mapped, mapped_from}
 use Rattle.lft_lists.proofs.Places.{Some_same, contains_at, get_push, get_push_cases, get_there, get_unwritten, get_write_cases, same_some}
 use Rattle.lft_whole.specs.declared.tree.{Instance.Instance, Member.Member}
 use Rattle.lft_classes.specs.declared.{scopes.ReactorNames.ReactorNames, shapes.{Child.Child, Inherited.Inherited, Shape.Shape}}
 use Rattle.lft_classes.specs.inner.{Built.{AreNoted, Core, IsBuilt, core, cores, instance_of}, Chains.extended_reactor, Makings.AreShapes}
-use Rattle.lft_classes.specs.inner.Needs.{AreNeedMarks, HasNeed, IsReadyToDecide, IsReadyAt, PassesOn, Gives, HasMember, IsDecided, IsMarkedNeeded, IsParameter, NamedFor, Need, NeedsName, NeedsNumber, Times, Widths, by_instance, by_member}
+use Rattle.lft_classes.specs.inner.Needs.{AreNeedMarks, HasNeed, IsReadyToDecide, IsReadyAt, PassesOn, HasMember, IsDecided, IsIndexFree, IsMarkedNeeded, IsUnmarkedAt, IsParameter, NeedsName, NeedsNumber, by_instance, by_member}
+use Rattle.lft_classes.specs.Needs.{Gives, NamedFor, Need, Times, Widths}
 use Rattle.lft_classes.specs.inner.{Shapes.{child_at, inside, tables}, Walks.{IsTopologicalOrder, Ways, nothing, one}}
 use Rattle.lft_classes.proofs.{Building.below_one, Goings.noted_child, Needing.{declared, member_of, one_name}}
 use Rattle.lft_whole.specs.declared.tree.Member.TheVariants as member
@@ -137,6 +139,32 @@ listed_before next _ (one xs y behind new below) i x k r at way = elim (get_push
 pub both_decided : (scopes : ReactorNames) (shape : Shape) (sized timed : Vec Bool Global) → ((n : ℕ) → (slice_get sized.items n ≡ Some true) ↔ NeedsNumber scopes Widths shape n) → ((n : ℕ) → (slice_get timed.items n ≡ Some true) ↔ NeedsNumber scopes Times shape n) → (need : Need) (n : ℕ) → IsMarkedNeeded need (record shape { sized = sized; timed = timed }) n ↔ NeedsNumber scopes need (record shape { sized = sized; timed = timed }) n
 both_decided scopes shape sized timed widths times Widths = widths
 both_decided scopes shape sized timed widths times Times = times
+
+-- where no bank has a marked `bank_index`, none needs one
+pub index_free : (scopes : ReactorNames) (first : ℕ) (shapes : List Shape) (s : ℕ) (shape : Shape) → IsReadyToDecide scopes first shapes s → slice_get shapes s ≡ Some shape → ((k : ℕ) (m : Inherited) → slice_get shape.members.items k ≡ Some m → IsUnmarkedAt shapes shape k m.member.now) → IsIndexFree scopes (cores shapes) (tables shapes) s
+index_free scopes first shapes s shape ready at unmarked k n inner need bank is needs = unmarked k bank.entry is_entry bank.instance bank.child w.0 bank.is_instance is_child w.1 bank.is_bank need n is_parameter marked
+  where
+    outer_is : bank.outer ≡ core shape
+    outer_is = same_some (slice_get (cores shapes) s) bank.outer (core shape) bank.is_outer (mapped core shapes s shape at)
+
+    is_entry : slice_get shape.members.items k ≡ Some bank.entry
+    is_entry = subst (λ (o : Core). slice_get o.members k ≡ Some bank.entry) outer_is bank.is_entry
+
+    is_child : child_at shape.children.items k ≡ Some bank.child
+    is_child = sym (ap (option_and_then (λ (l : List (Option Child)). child_at l k)) (mapped (λ (x : Shape). x.children.items) shapes s shape at)) ∙ bank.is_child
+
+    w : (w : Shape) × (slice_get shapes bank.child.shape ≡ Some w) × (core w ≡ inner)
+    w = mapped_from core shapes bank.child.shape inner bank.is_inner
+
+    is_parameter : IsParameter w.0 (codes "bank_index") n
+    is_parameter = ap (λ (c : Core). c.things (codes "bank_index")) w.2 ∙ is
+
+    marked : IsMarkedNeeded need w.0 n
+    marked = (ready.inner k bank.child.shape (child_inside shapes s k shape bank.child at is_child) w.0 w.1 need n).1 (codes "bank_index", is_parameter, subst (λ (c : Core). NeedsName scopes need c.class.number (codes "bank_index")) (sym w.2) needs)
+
+-- where there is no shape there is no bank
+pub index_none : (scopes : ReactorNames) (shapes : List Shape) (s : ℕ) → (s < length shapes → ⊥) → IsIndexFree scopes (cores shapes) (tables shapes) s
+index_none scopes shapes s none k n inner need bank is needs = let w = mapped_from core shapes s bank.outer bank.is_outer in none (slice_get_within shapes s w.0 w.1)
 
 -- a shape that is written
 pub decided_one : (scopes : ReactorNames) (shapes : List Shape) (i : ℕ) (y : Shape) → i < length shapes → ((need : Need) (n : ℕ) → IsMarkedNeeded need y n ↔ NeedsNumber scopes need y n) → IsDecided scopes (slice_set shapes i y) i

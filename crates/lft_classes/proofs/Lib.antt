@@ -6,7 +6,7 @@ mod Listing
 mod Marking
 mod Meanings
 mod Naming
-mod Needing
+pub mod Needing
 pub mod Numbering
 mod Passing
 mod Refusing

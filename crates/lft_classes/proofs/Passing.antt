@@ -4,8 +4,8 @@ use Rattle.std.{specs.Global.Global, proofs.lemmas.Option.slice_get_within}
 use Rattle.lft_lists.proofs.Places.{at_contains, contains_at, get_same, get_there, length_same, same_some}
 use Rattle.lft_whole.specs.declared.tree.{Assignment.Assignment, Expression.Expression, Instance.Instance, Member.Member, Term.Term, Width.Width}
 use Rattle.lft_classes.specs.declared.shapes.{Child.Child, Inherited.Inherited, Shape.Shape}
-use Rattle.lft_classes.specs.inner.Circles.{NamesAt}
-use Rattle.lft_classes.specs.inner.Needs.{AreNeedMarks, HasNeed, IsParameterIn, IsPassed, IsPassedIn, IsTimeIn, Marks, NamesNumber, NamesParameter, PassesOn, IsMarkedNeeded, IsParameter, IsWord, Need, Times, Widths, times_of_member}
+use Rattle.lft_classes.specs.Needs.{IsWord, Names, Need, Times, Widths, times_of_member}
+use Rattle.lft_classes.specs.inner.Needs.{AreNeedMarks, HasNeed, IsParameterIn, IsPassed, IsPassedIn, IsTimeIn, Marks, NamesNumber, NamesParameter, PassesOn, IsMarkedNeeded, IsParameter}
 use Rattle.lft_classes.specs.inner.Shapes.{child_at}
 use Rattle.lft_classes.specs.Shapes.{width_of}
 use Rattle.lft_classes.proofs.Marking.{AnyBelow}
@@ -58,9 +58,9 @@ term_one shape i term word parameter is named n = (
 -- the terms of a width that are parameters are those that it names
 pub terms_name : (shape : Shape) (width : Option Width) (w : Width) → width ≡ Some w → (n : ℕ) → ((i : ℕ) × ((term : Term) × (slice_get w.terms.items i ≡ Some term) × IsTermIn shape i term n)) ↔ NamesParameter shape width n
 terms_name shape width w is n = (
-  λ h. (w, is, (string_bytes h.1.2.0, (h.1.0.at, record { which = h.0; term = h.1.0; is_term = h.1.1; word = h.1.2.0; is_word = h.1.2.1; is_name = refl; stands = refl }), h.1.2.2)),
+  λ h. (w, is, (string_bytes h.1.2.0, record { which = h.0; term = h.1.0; is_term = h.1.1; word = h.1.2.0; is_word = h.1.2.1; is_name = refl }, h.1.2.2)),
   λ g. (
-      let at : NamesAt w g.2.0 g.2.1.0 = subst (λ v. NamesAt v g.2.0 g.2.1.0) (same_some width g.0 w g.1 is) g.2.1.1 in
+      let at : Names w g.2.0 = subst (λ v. Names v g.2.0) (same_some width g.0 w g.1 is) g.2.1 in
       (at.which, (at.term, at.is_term, (at.word, at.is_word, subst (λ q. IsParameter shape q n) (sym at.is_name) g.2.2)))
       ),
 )

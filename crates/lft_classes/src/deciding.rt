@@ -1,9 +1,10 @@
 //! Which parameters decide widths, and which are times.
 
-ghost use Rattle.std.specs.Prelude.{◌≡◌, ◌≢◌, ℕ, Some, IfNone, IfOk, IfSome, OnOk, true};
-ghost use Rattle.lft_classes.specs.declared.scopes.ReactorNames.{ReactorNames};
+ghost use Rattle.std.specs.Prelude.{◌≡◌, ◌≢◌, ℕ, Some, IfNone, IfOk, IfSome, OnOk, slice_get, true};
+ghost use Rattle.lft_classes.specs.declared.{scopes.ReactorNames.ReactorNames, shapes.Inherited.Inherited as InheritedMember};
 ghost use Rattle.lft_classes.specs.inner.{Built.cores, Shapes.tables};
-ghost use Rattle.lft_classes.specs.inner.Needs.{AreNeedMarks, HasNeed, IsParameterIn, IsPassed, IsPassedIn, IsReadyToDecide, IsTimeIn, Marks, NamesParameter, IsDecided, Times, Widths};
+ghost use Rattle.lft_classes.specs.inner.Needs.{AreNeedMarks, HasNeed, HasNoMarkedIndex, IsIndexFree, IsParameterIn, IsPassed, IsPassedIn, IsReadyToDecide, IsTimeIn, IsUnmarkedAt, Marks, NamesParameter, IsDecided};
+ghost use Rattle.lft_classes.specs.Needs.{Times, Widths};
 
 use crate::shapes::{Inherited, Shape};
 use lft_whole::sources::{NoProgram, Why};
@@ -47,14 +48,20 @@ fn mark_if(list: &mut Vec<bool>, parameter: usize, is_needed: bool)
     }
 }
 
-/// Refuses a bank of a reactor with a width that needs the number in the bank.
-fn refuse_by_index(inner: &Shape, file: usize, instance: &Instance) -> Result<(), NoProgram> {
+/// Refuses a bank of a reactor with a width or a time that needs the number in the bank.
+fn refuse_by_index(inner: &Shape, file: usize, instance: &Instance) -> Result<(), NoProgram>
+    ensures { OnOk result (HasNoMarkedIndex inner.now instance.now) }
+{
     // A bank has one setting for all its members, and here each of them would need its own.
     if instance.width.is_some()
         && let Some(index) = inner.parameter("bank_index")
-        && inner.is_sized(index)
     {
-        return Err(NoProgram::at(Why::WidthByIndex, file, instance.name.at));
+        if inner.is_sized(index) {
+            return Err(NoProgram::at(Why::WidthByIndex, file, instance.name.at));
+        }
+        if inner.is_timed(index) {
+            return Err(NoProgram::at(Why::NoTime, file, instance.name.at));
+        }
     }
     Ok(())
 }
@@ -144,6 +151,7 @@ impl Needs {
     ) -> Result<(), NoProgram>
         ensures sized { OnOk result (Marks (HasNeed Widths shapes.now shape.now number (Member.Instance instance.now)) self.old.sized.items self.new.sized.items) }
         ensures timed { OnOk result (Marks (HasNeed Times shapes.now shape.now number (Member.Instance instance.now)) self.old.timed.items self.new.timed.items) }
+        ensures index { OnOk result (IsUnmarkedAt shapes.now shape.now number (Member.Instance instance.now)) }
     {
         self.note_width(shape, inherited.file, &instance.width)?;
         let Some(child) = shape.child(number) else {
@@ -167,6 +175,7 @@ impl Needs {
     ) -> Result<(), NoProgram>
         ensures sized { OnOk result (Marks (HasNeed Widths shapes.now shape.now number inherited.entry.member.now) self.old.sized.items self.new.sized.items) }
         ensures timed { OnOk result (Marks (HasNeed Times shapes.now shape.now number inherited.entry.member.now) self.old.timed.items self.new.timed.items) }
+        ensures index { OnOk result (IsUnmarkedAt shapes.now shape.now number inherited.entry.member.now) }
     {
         match inherited.member {
             Member::Port(port) => self.note_width(shape, inherited.file, &port.width)?,
@@ -191,6 +200,7 @@ impl Needs {
 fn needs_of(alloc: Global, shapes: &[Shape], shape: &Shape) -> Result<Needs, NoProgram>
     ensures sized { IfOk result (λ needs. AreNeedMarks Widths shapes.now shape.now needs.sized.items) }
     ensures timed { IfOk result (λ needs. AreNeedMarks Times shapes.now shape.now needs.timed.items) }
+    ensures index { OnOk result ((k : ℕ) (m : InheritedMember) → slice_get shape.now.members.items k ≡ Some m → IsUnmarkedAt shapes.now shape.now k m.member.now) }
 {
     let count = shape.parameters.len();
     let mut needs = Needs {
@@ -208,6 +218,7 @@ pub(crate) fn decide(alloc: Global, shapes: &mut Vec<Shape>, number: usize) -> R
     ensures tables { OnOk result (tables shapes.new.items ≡ tables shapes.old.items) }
     ensures cores { OnOk result (cores shapes.new.items ≡ cores shapes.old.items) }
     ensures decided { OnOk result ((scopes : ReactorNames) (first : ℕ) → IsReadyToDecide scopes first shapes.old.items number → IsDecided scopes shapes.new.items number) }
+    ensures index { OnOk result ((scopes : ReactorNames) (first : ℕ) → IsReadyToDecide scopes first shapes.old.items number → IsIndexFree scopes (cores shapes.old.items) (tables shapes.old.items) number) }
     ensures kept { OnOk result ((scopes : ReactorNames) (s : ℕ) → s ≢ number → IsDecided scopes shapes.old.items s → IsDecided scopes shapes.new.items s) }
 {
     if number >= shapes.len() {

@@ -1,3 +1,4 @@
+pub mod Banks
 pub mod Channels
 pub mod ClassNames
 pub mod Fitting

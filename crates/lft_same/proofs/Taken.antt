@@ -10,24 +10,26 @@ use Rattle.lft_resolve.specs.{Causes.{NoneHolds, causes}, Expansion.Paths.along,
 use Rattle.lft_resolve.specs.Kinds.{timer_times, times_in}
 use Rattle.lft_whole.specs.declared.sources.source.SourceFile.{SourceFile}
 use Rattle.lft_whole.specs.declared.tree.{Action.Action, Connection.Connection, Effect.Effect, Expression.Expression, Instance.Instance, Member.Member, Name.Name, Parameter.Parameter, Reaction.Reaction, Reactor.Reactor, Reference.Reference, Trigger.Trigger, WrittenValue.WrittenValue}
-use Rattle.lft_classes.specs.{Shapes.{name_of, width_of}, declared.{scopes.Class.Class as ScopesClass, shapes.{Child.Child, Inherited.Inherited, InheritedParameter.InheritedParameter, Shape.Shape}}, inner.{Built.{Core, core}, Scopes.{reactors_before, reactors_in}, Shapes.thing_named}}
+use Rattle.lft_classes.specs.{Shapes.{name_of, width_of}, declared.{scopes.Class.Class as ScopesClass, shapes.{Child.Child, Inherited.Inherited, InheritedParameter.InheritedParameter, Shape.Shape}}, inner.{Built.{Core, core}, Scopes.{IsExported, reactors_before, reactors_in}, Shapes.thing_named}}
 use Rattle.lft_classes.specs.declared.shapes.OwnThing.{OwnThing as ShapeThing}
 use Rattle.lft_elaborate.specs.Channels.Channels.{below}
 use Rattle.lft_elaborate.specs.inner.{Meanings.meaning_named, Noted.found_inside, Settings.{setting_in, shape_at, valued}, Values.{Valued, inside, main_setting, main_values}, Widths.found_width}
 use Rattle.lft_elaborate.specs.{inner.Channels.Lowered.AreJoinedPlaces, declared.settings.Setting.Setting}
 use Rattle.lft_elaborate.specs.declared.meanings.Meaning.{Meaning}
-use Rattle.lft_classes.proofs.Numbering.{at_file}
+use Rattle.lft_classes.specs.inner.{Shapes.{inside as noted_inside, tables}, Walks.{Has, IsReachable}}
+use Rattle.lft_classes.proofs.{Needing.listed_all, Numbering.at_file}
+use Rattle.lft_elaborate.specs.inner.Used.{IsReached}
 use Rattle.lft_elaborate.proofs.Keeping.{found_is_inside}
 use Rattle.lft_lower.specs.inner.Meanings.Meanings.{Here, Means, all_places}
 use Rattle.lft_lower.specs.inner.{Lowered.{AreConnected, AreInstances, AreTriggers, IsLowered, IsRead, MeanSides, MeansEffect, MeansTrigger, action_tree, each_pair, is_some_time, no_instances, period_at, runs, sleeps, some_instances, time_at, timer_tree, trigger_places, whole}, Programs.decentralized_in, Reactors.{AreShapesOfFiles, IsLowering}}
-use Rattle.lft_same.specs.Expanded.{Expanded.Expanded, Instances.{Inside, Widths, entered_instance, inside_of, main_class_instance, numbers, place_named}, Reactors.{Class, is_named, main_of, members_of, parameters_of, reactor_of}}
+use Rattle.lft_same.specs.Expanded.{Expanded.Expanded, Instances.{Inside, Widths, entered_instance, inside_of, main_class_instance, numbers, place_named}, Reactors.{Class, is_named, main_of, members_of, own_class, parameters_of, reactor_of}}
 use Rattle.lft_same.specs.Expanded.{Same.IsSame, Whole.{AreWidths, LeadsToInstance, inside_named, links_of}}
-use Rattle.lft_same.specs.Expanded.Taken.{AreGivenTo, HasNamesApart, HasOneMain, HasParameter, HasTimes, IsCentral, IsEffect, IsMember, IsNamed, IsNoSpacing, IsReaction, IsTaken, IsTakenInside, IsThere, IsTrigger, IsZero}
+use Rattle.lft_same.specs.Expanded.Taken.{AreGivenTo, HasImports, HasNamesApart, HasOneMain, HasParameter, HasTimes, IsCentral, IsEffect, IsIndexFree, IsMember, IsNamed, IsNoSpacing, IsReaction, IsTaken, IsTakenInside, IsThere, IsTrigger, IsZero}
 use Rattle.lft_same.specs.inner.{Expanded.Core.{core_links, expanded_tree}, Fits.Fits.{Fits, IsShapeOf}, Times.IsKnown}
-use Rattle.lft_same.proofs.FitsLemmas.{Fitting.parameter_is, Giving.{find_none, unique}, MemberNames.member_found, Nested.{in_first, main_is}, Ports.{IsPort, port_is}}
+use Rattle.lft_same.proofs.FitsLemmas.{Banks.{index_law, reached_shape}, ClassNames.own_found, Fitting.parameter_is, Giving.{find_none, unique}, MemberNames.member_found, Nested.{in_first, main_is}, Ports.{IsPort, port_is}}
 use Rattle.lft_same.proofs.{Connections.connection_links, Known.{action_time, delay_time, known_law, listed, timer_time}, Times.{IsInsideGiven, inside_given, made_of, period_is_in, time_is_in}, Found.shape_of_setting}
 use Rattle.lft_same.proofs.{Instances.{AreWidthsFound, StandsFor}, Lowered.{Becomes, made_at}, Members.{here, of_class}, Paths.{Both, both, neither}}
-use Rattle.lft_same.proofs.{References.{inside_is, its_instance, u as setting_inside, y as instance_inside}, Settings.{its_setting, member_of, nested, numbers_are}}
+use Rattle.lft_same.proofs.{References.{inside_is, its_instance, u as setting_inside, y as instance_inside}, Settings.{its_setting, member_of, nested, numbers_are, shape_there}}
 use Rattle.lft_same.proofs.{Same.{at_path, is_same, main as main_reactor, stands}, Widths.{depth, has_widths, in_steps}}
 use Rattle.lft_elaborate.specs.declared.meanings.Meaning.TheVariants as meaning
 use Rattle.lft_whole.specs.declared.tree.Effect.TheVariants as effect
@@ -94,6 +96,17 @@ one_main files shapes (scopes, n, is, same) f j k a b first at there main also =
         let stands : slice_get (reactors_in files) (length (reactors_before files 0) + j) ≡ Some (0, a) = at_file files 0 f j a first at in
         let d = mapped_from (λ (d : ScopesClass). (d.file, d.reactor.now)) scopes.classes.items (length (reactors_before files 0) + j) (0, a) (ap (λ l. slice_get l (length (reactors_before files 0) + j)) is.scopes_are.reactors ∙ stands) in
         is.main_is.alone (length (reactors_before files 0) + j) d.0 (record { is_known = d.1; in_first_file = ap (λ (p : ℕ × Reactor). p.0) d.2; is_main = ap (λ (p : ℕ × Reactor). p.1.is_main) d.2 ∙ main })
+
+-- what is imported is there
+imports_there : (files : List SourceFile) (shapes : List Shape) → AreShapesOfFiles files shapes → HasImports files
+imports_there files shapes (scopes, n, is, same) file other k j f what name here written read at = go (own_class files other (string_bytes name.name.text)) refl
+  where
+    c : (c : ScopesClass) × IsExported files other (string_bytes name.name.text) c
+    c = is.scopes_are.imports file other what j name (record { here = f; is_here = here; place = k; is_written = written; is_read = read }) at
+
+    go : (o : Option Class) → own_class files other (string_bytes name.name.text) ≡ o → is_some o ≡ true
+    go None e = absurd (own_found files other (string_bytes name.name.text) c.0 c.1.0 e)
+    go (Some z) e = refl
 
 -- the first shape is of the main reactor
 main_reactor_is : (files : List SourceFile) (shapes : List Shape) → AreShapesOfFiles files shapes → (main : Shape) → slice_get shapes 0 ≡ Some main → (at : Class) × (main_of files ≡ Some at) × (reactor_of files at ≡ Some main.class.reactor.now)
@@ -257,10 +270,24 @@ module _ (files : List SourceFile) (tree : Ast) (low : IsLowering files tree) (n
         let e : Some (thing.Member j) ≡ Some (thing.Member k) = sym first ∙ second in
         cc
 
+    -- ---- banks
+    banks : (k file : ℕ) (i : Instance) (y : Inside) → slice_get (members_of files x.class) k ≡ Some (file, member.Instance i) → is_some i.width ≡ true → inside_of files x (file, i) ≡ Some y → IsIndexFree files y
+    banks k file i y = index_law files scopes.0 scopes.1 scopes.2 s.setting.shape s.shape x k file i y has (subst (λ l. slice_get l s.setting.shape ≡ Some s.shape) (sym scopes.3) (shape_there files tree low x (its_setting files tree low x core s))) is_shape_of
+      where
+        scopes : AreShapesOfFiles files low.settings.shapes.items
+        scopes = low.program.shapes
+
+        reached : (t : Valued) × (setting_in low.settings.settings.items s.number ≡ Some t) × IsReached low.settings.shapes.items t
+        reached = low.program.are_used.reached s.number s.used
+
+        has : Has scopes.1.order.items s.setting.shape
+        has = listed_all (noted_inside (tables scopes.1.shapes.items)) 0 scopes.1.order.items scopes.2.order s.setting.shape (subst (λ l. IsReachable (noted_inside (tables l)) 0 s.setting.shape) (sym scopes.3) (subst (λ (t : Valued). IsReachable (noted_inside (tables low.settings.shapes.items)) 0 t.shape) (Some_same reached.0 s.setting (sym reached.1 ∙ s.is_setting)) (reached_shape low.settings.shapes.items reached.0 reached.2)))
+
     taken_inside : IsTakenInside files w x
     taken_inside = record {
       members = λ k m at. of_member k m.0 m.1 at (made k m.0 m.1 at).1.before (made k m.0 m.1 at).0 (made k m.0 m.1 at).1.after (lowered k m.0 m.1 at);
       times = λ k m at. of_times k m.0 m.1 (made k m.0 m.1 at).1.before (made k m.0 m.1 at).0 (made k m.0 m.1 at).1.after (made k m.0 m.1 at).1.among (lowered k m.0 m.1 at);
+      banks = banks;
       apart = apart;
     }
 
@@ -309,6 +336,7 @@ module _ (files : List SourceFile) (tree : Ast) (low : IsLowering files tree) (n
     steps = ((depth files tree low none).0, λ v path x k m width leads at wide. let s = stands_at path x leads in in_steps files tree low none w found v x (its_setting files tree low x s.0 s.1) k m width at wide);
     central = is_central;
     one_main = one_main files low.settings.shapes.items low.program.shapes;
+    imports = imports_there files low.settings.shapes.items low.program.shapes;
   }
 
 -- it is the whole program, and is taken

@@ -1,19 +1,12 @@
 -- Inside: which parameters reactors need: for their widths, and for their times.
-use Rattle.std.specs.Prelude.{◌≡◌, ◌↔◌, ℕ, Bool, true, Contains, List, ◌∷◌, Option, Some, String, slice_get, string_bytes, [], ◌⊎◌, length}
-use Rattle.std.specs.Global.{Global}
+use Rattle.std.specs.Prelude.{◌≡◌, ◌↔◌, ℕ, Bool, true, List, Option, Some, codes, is_some, slice_get, string_bytes, ◌⊎◌, length}
 use Rattle.lft_whole.specs.declared.tree.{Assignment.Assignment, Expression.Expression, Instance.Instance, Member.Member, Width.Width}
 use Rattle.lft_classes.specs.declared.{scopes.ReactorNames.ReactorNames, shapes.{Shape.Shape, Child.Child, Inherited.Inherited}}
-use Rattle.lft_classes.specs.inner.{Built.{members_at, AreNoted, cores}, Chains.{base_of, extended_reactor}, Circles.NamesAt}
-use Rattle.lft_classes.specs.inner.{Shapes.{thing_named, child_at, inside, tables}, Walks.IsReachable, Makings.AreShapes}
-use Rattle.lft_classes.specs.Shapes.{width_of}
+use Rattle.lft_classes.specs.inner.{Built.{Core, members_at, AreNoted, cores}, Chains.{base_of, extended_reactor}}
+use Rattle.lft_classes.specs.inner.{Shapes.{thing_named, child_at, child_in, inside, tables}, Walks.IsReachable, Makings.AreShapes}
+use Rattle.lft_classes.specs.Needs.{Gives, IsWord, NamedFor, Names, Need, Times, Widths}
 use Rattle.lft_whole.specs.declared.tree.Member.TheVariants as member
-use Rattle.lft_whole.specs.declared.tree.WrittenValue.TheVariants as value
 use Rattle.lft_classes.specs.declared.shapes.OwnThing.TheVariants as thing
-
--- what a parameter is needed for
-pub data Need : Type 0 where
-  Widths : Need
-  Times : Need
 
 -- the reactor has the member of the file, its own one or one of a reactor that it extends
 pub record HasMember (scopes : ReactorNames) (r : ℕ) (m : ℕ × Member) : Type 0 where
@@ -21,36 +14,6 @@ pub record HasMember (scopes : ReactorNames) (r : ℕ) (m : ℕ × Member) : Typ
   pub reached : IsReachable (base_of scopes) r class
   pub which : ℕ
   pub is_there : slice_get (members_at scopes class) which ≡ Some m
-
--- a term of the width is this name
-abbrev pub Names : Width → List ℕ → Type 0
-Names width q = (token : ℕ) × NamesAt width q token
-
--- the expression is this name
-pub record IsWord (expression : Expression) (q : List ℕ) : Type 0 where
-  pub word : String Global
-  pub is_word : expression.value ≡ value.Word word
-  pub is_name : string_bytes word ≡ q
-
--- what stands in a member where a time does
-abbrev pub times_of_member : Member → List (Option Expression)
-times_of_member (member.Timer timer) = timer.offset ∷ timer.period ∷ []
-times_of_member (member.Action action) = action.min_delay ∷ []
-times_of_member (member.Connection connection) = connection.delay ∷ []
-times_of_member _ = []
-
--- a term of the member's width is this name, or one of its times is
-abbrev pub NamedFor : Need → Member → List ℕ → Type 0
-NamedFor Widths m q = (width : Width) × (width_of m ≡ Some width) × Names width q
-NamedFor Times m q = (time : Expression) × Contains (times_of_member m) (Some time) × IsWord time q
-
--- the instance gives to the first name the second one
-pub record Gives (instance : Instance) (p q : List ℕ) : Type 0 where
-  pub which : ℕ
-  pub assignment : Assignment
-  pub is_given : slice_get instance.given.items which ≡ Some assignment
-  pub has_name : string_bytes assignment.name.text ≡ p
-  pub is_word : IsWord assignment.value q
 
 -- The reactor needs the parameter of this name: a member names it, or an instance gives it to one that the instance's reactor needs.
 pub data NeedsName (scopes : ReactorNames) (need : Need) : ℕ → List ℕ → Type 0 where
@@ -78,7 +41,32 @@ IsMarkedNeeded need shape n = slice_get (need_marks need shape) n ≡ Some true
 abbrev pub IsDecided : ReactorNames → List Shape → ℕ → Type 0
 IsDecided scopes shapes s = (shape : Shape) → slice_get shapes s ≡ Some shape → (need : Need) (n : ℕ) → IsMarkedNeeded need shape n ↔ NeedsNumber scopes need shape n
 
+-- the member of this number of a shape is a bank, and this is the reactor of its instances
+pub record IsBankOf (cs : List Core) (rows : List (List (Option Child))) (s k : ℕ) (inner : Core) : Type 0 where
+  pub outer : Core
+  pub is_outer : slice_get cs s ≡ Some outer
+  pub entry : Inherited
+  pub is_entry : slice_get outer.members k ≡ Some entry
+  pub instance : Instance
+  pub is_instance : entry.member.now ≡ member.Instance instance
+  pub is_bank : is_some instance.width ≡ true
+  pub child : Child
+  pub is_child : child_in rows s k ≡ Some child
+  pub is_inner : slice_get cs child.shape ≡ Some inner
+
+-- no reactor of a bank in the shape needs a parameter `bank_index`: the instances of a bank have one setting
+abbrev pub IsIndexFree : ReactorNames → List Core → List (List (Option Child)) → ℕ → Type 0
+IsIndexFree scopes cs rows s = (k n : ℕ) (inner : Core) (need : Need) → IsBankOf cs rows s k inner → inner.things (codes "bank_index") ≡ Some (thing.Parameter n) → NeedsName scopes need inner.class.number (codes "bank_index") → ⊥
+
 -- ---- for the crate's own contracts
+-- in a bank of the reactor no parameter `bank_index` is marked
+abbrev pub HasNoMarkedIndex : Shape → Instance → Type 0
+HasNoMarkedIndex inner instance = is_some instance.width ≡ true → (need : Need) (n : ℕ) → IsParameter inner (codes "bank_index") n → IsMarkedNeeded need inner n → ⊥
+
+-- so it is of the member of this number, if it is a bank
+abbrev pub IsUnmarkedAt : List Shape → Shape → ℕ → Member → Type 0
+IsUnmarkedAt shapes shape k m = (instance : Instance) (child : Child) (inner : Shape) → m ≡ member.Instance instance → child_at shape.children.items k ≡ Some child → slice_get shapes child.shape ≡ Some inner → HasNoMarkedIndex inner instance
+
 -- such numbers are marked more, and no others
 pub record Marks (P : ℕ → Type 0) (old new : List Bool) : Type 0 where
   pub count : length new ≡ length old

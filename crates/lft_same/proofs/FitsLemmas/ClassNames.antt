@@ -154,7 +154,7 @@ abbrev pub paired : ℕ → ℕ → ℕ × ℕ
 paired file k = (file, k)
 
 -- a reactor of this name stands in the file, so the search finds one
-own_found : (files : List SourceFile) (file : ℕ) (q : List ℕ) (c : Class) → IsOwn files file q c → own_class files file q ≡ None → ⊥
+pub own_found : (files : List SourceFile) (file : ℕ) (q : List ℕ) (c : Class) → IsOwn files file q c → own_class files file q ≡ None → ⊥
 own_found files file q c own none =
     let j = own_place files file c own.stands own.in_file in
     let n : option_map (paired file) (position (is_reactor_called q) j.0.tree.reactors.items) ≡ None = sym (ap (option_and_then (λ (f : SourceFile). option_map (paired file) (position (is_reactor_called q) f.tree.reactors.items))) j.1) ∙ none in

@@ -1,21 +1,19 @@
 -- What is taken: all that an instance of a whole program has is something. The rest of the language is refused.
-use Rattle.std.specs.Prelude.{◌≡◌, ◌≢◌, ◌≤◌, ◌⊎◌, ℕ, zero, suc, true, false, is_some, IsSomeAnd, List, [], Option, Some, None, find, map, option_map, slice_get, string_bytes, unwrap_or}
+use Rattle.std.specs.Prelude.{◌≡◌, ◌≢◌, ◌≤◌, ◌⊎◌, ℕ, zero, suc, true, false, is_some, IfSome, IsSomeAnd, List, [], Option, Some, None, codes, find, map, option_map, slice_get, string_bytes, unwrap_or}
 use Rattle.std.specs.{List.All, Option.option_and_then}
 use Rattle.lft_resolve.specs.Causes.{longest}
 use Rattle.lft_tree.specs.Tree.{nanoseconds}
 use Rattle.lft_elaborate.specs.Values.{is_forever}
-use Rattle.lft_classes.specs.Shapes.{name_of, width_of}
+use Rattle.lft_classes.specs.{Needs.{Gives, NamedFor, Need}, Shapes.{name_of, width_of}}
 use Rattle.lft_whole.specs.declared.sources.source.SourceFile.{SourceFile}
-use Rattle.lft_whole.specs.declared.tree.{Assignment.Assignment, Effect.Effect, Expression.Expression, Instance.Instance, Member.Member, Reaction.Reaction, Reactor.Reactor, Reference.Reference}
+use Rattle.lft_whole.specs.declared.tree.{Assignment.Assignment, Effect.Effect, Expression.Expression, Import.Import, ImportedName.ImportedName, Instance.Instance, Member.Member, Reaction.Reaction, Reactor.Reactor, Reference.Reference}
 use Rattle.lft_whole.specs.declared.tree.{Trigger.Trigger, Width.Width, WrittenValue.WrittenValue}
 use Rattle.lft_same.specs.Expanded.Instances.{Inside, Widths, inside_of, numbers, place_named, read_in}
-use Rattle.lft_same.specs.Expanded.{Reactors.{is_named, main_of, members_of, parameters_of, reactor_of}, Whole.{LeadsToInstance, inside_named, links_of, term_of_width, total_width}}
+use Rattle.lft_same.specs.Expanded.{Reactors.{Class, class_named, is_named, main_of, members_of, own_class, parameters_of, reactor_of}, Whole.{LeadsToInstance, inside_named, links_of, term_of_width, total_width}}
 use Rattle.lft_whole.specs.declared.tree.Effect.TheVariants as effect
 use Rattle.lft_whole.specs.declared.tree.Member.TheVariants as member
 use Rattle.lft_whole.specs.declared.tree.Trigger.TheVariants as trigger
 use Rattle.lft_whole.specs.declared.tree.WrittenValue.TheVariants as value
-
--- ---- names
 
 -- the reactor of an instance has a parameter of this name
 abbrev pub HasParameter : List SourceFile → Inside → List ℕ → Type 0
@@ -29,8 +27,6 @@ IsNamed files x b (Some p) = IsSomeAnd (inside_named files x b) (λ y. is_some (
 -- what a reference names is there
 abbrev pub IsThere : List SourceFile → Inside → Reference → Type 0
 IsThere files x r = IsNamed files x (string_bytes r.head.text) (option_map (λ p. string_bytes p.text) r.port)
-
--- ---- reactions
 
 -- a trigger isn't of a mode
 abbrev pub IsTrigger : List SourceFile → Inside → Trigger → Type 0
@@ -50,8 +46,6 @@ pub record IsReaction (files : List SourceFile) (x : Inside) (r : Reaction) : Ty
   pub uses : All (IsThere files x) r.uses.items
   pub effects : All (IsEffect files x) r.effects.items
 
--- ---- times
-
 -- a value is a time: a whole number with a unit, or 0, and not past the greatest
 abbrev pub IsTimeValue : WrittenValue → Type 0
 IsTimeValue (value.Number false n (Some unit)) = nanoseconds (record { count = n; unit = Some unit }) ≤ longest
@@ -60,13 +54,11 @@ IsTimeValue v = ⊥
 
 -- a time that is written is one, read in an instance
 abbrev pub IsTimeIn : List SourceFile → Inside → Option Expression → Type 0
-IsTimeIn files x None = Unit {0}
-IsTimeIn files x (Some e) = IsSomeAnd (read_in files x e.value) IsTimeValue
+IsTimeIn files x o = IfSome o (λ e. IsSomeAnd (read_in files x e.value) IsTimeValue)
 
 -- a period is one, or `forever`
 abbrev pub IsPeriodIn : List SourceFile → Inside → Option Expression → Type 0
-IsPeriodIn files x None = Unit {0}
-IsPeriodIn files x (Some e) = is_forever e.value ≡ false → IsTimeIn files x (Some e)
+IsPeriodIn files x o = IfSome o (λ e. is_forever e.value ≡ false → IsTimeIn files x (Some e))
 
 -- a value is 0
 abbrev pub IsZero : WrittenValue → Type 0
@@ -75,10 +67,7 @@ IsZero v = ⊥
 
 -- a least spacing is 0, where one is written
 abbrev pub IsNoSpacing : Option Expression → Type 0
-IsNoSpacing None = Unit {0}
-IsNoSpacing (Some e) = IsZero e.value
-
--- ---- members
+IsNoSpacing o = IfSome o (λ e. IsZero e.value)
 
 -- each value is given to a parameter of the instance, and each parameter is given one
 pub record AreGivenTo (files : List SourceFile) (given : List Assignment) (y : Inside) : Type 0 where
@@ -102,23 +91,31 @@ HasTimes files w x (member.Action a) = IsTimeIn files x a.min_delay
 HasTimes files w x (member.Connection c) = links_of files w [] x c ≢ [] → IsTimeIn files x c.delay
 HasTimes files w x m = Unit {0}
 
+-- the reactor needs its parameter of this name: a member names it, or an instance gives it to one that its reactor needs
+pub data Needs (files : List SourceFile) (need : Need) : Class → List ℕ → Type 0 where
+  by_member : {c : Class} {q : List ℕ} (k : ℕ) (m : ℕ × Member) → slice_get (members_of files c) k ≡ Some m → NamedFor need m.1 q → Needs files need c q
+  by_instance : {c d : Class} {p q : List ℕ} (k file : ℕ) (i : Instance) → slice_get (members_of files c) k ≡ Some (file, member.Instance i) → class_named files file (string_bytes i.reactor.text) ≡ Some d → Gives i p q → Needs files need d p → Needs files need c q
+
+-- no width and no time needs a parameter `bank_index`, which differs in the instances of a bank
+abbrev pub IsIndexFree : List SourceFile → Inside → Type 0
+IsIndexFree files y = HasParameter files y (codes "bank_index") → (need : Need) → Needs files need y.class (codes "bank_index") → ⊥
+
 -- two members of a reactor have two names
 abbrev pub HasNamesApart : List SourceFile → Inside → Type 0
 HasNamesApart files x = (j k : ℕ) (a b : ℕ × Member) (q : List ℕ) → slice_get (members_of files x.class) j ≡ Some a → slice_get (members_of files x.class) k ≡ Some b → option_map (λ n. string_bytes n.text) (name_of a.1) ≡ Some q → option_map (λ n. string_bytes n.text) (name_of b.1) ≡ Some q → j ≡ k
 
--- an instance has such members, with such times
+-- an instance has such members, with such times, and such banks
 pub record IsTakenInside (files : List SourceFile) (w : Widths) (x : Inside) : Type 0 where
   pub members : (k : ℕ) (m : ℕ × Member) → slice_get (members_of files x.class) k ≡ Some m → IsMember files w x k m
   pub times : (k : ℕ) (m : ℕ × Member) → slice_get (members_of files x.class) k ≡ Some m → HasTimes files w x m.1
+  pub banks : (k file : ℕ) (i : Instance) (y : Inside) → slice_get (members_of files x.class) k ≡ Some (file, member.Instance i) → is_some i.width ≡ true → inside_of files x (file, i) ≡ Some y → IsIndexFree files y
   pub apart : HasNamesApart files x
 
--- ---- widths
-
--- a width of a member, where the widths on which it hangs are so
+-- the width of the member at a place, where these are the widths of others
 abbrev pub next_width : List SourceFile → Widths → Inside → ℕ → ℕ
 next_width files w x m = unwrap_or (option_and_then (λ (y : ℕ × Member). option_and_then (λ (width : Width). total_width (map (λ z. term_of_width files w x z.count) width.terms.items)) (width_of y.1)) (slice_get (members_of files x.class) m)) 0
 
--- the widths that are found in so many steps, from some to begin with
+-- the widths that are found in so many steps, where these are there to begin with
 abbrev pub widths_from : List SourceFile → Widths → ℕ → Widths
 widths_from files v zero x m = v x m
 widths_from files v (suc d) x m = next_width files (widths_from files v d) x m
@@ -126,8 +123,6 @@ widths_from files v (suc d) x m = next_width files (widths_from files v d) x m
 -- no width hangs on itself: in so many steps these are found, whatever widths there are to begin with
 abbrev pub AreFoundInSteps : List SourceFile → Widths → Type 0
 AreFoundInSteps files w = (depth : ℕ) × ((v : Widths) (path : List ℕ) (x : Inside) (k : ℕ) (m : ℕ × Member) (width : Width) → LeadsToInstance files w path x → slice_get (members_of files x.class) k ≡ Some m → width_of m.1 ≡ Some width → widths_from files v depth x k ≡ w x k)
-
--- ---- the program
 
 -- a federation isn't decentralized
 abbrev pub IsCentral : List SourceFile → Type 0
@@ -137,9 +132,14 @@ IsCentral files = IsSomeAnd (slice_get files 0) (λ f. IsSomeAnd (option_and_the
 abbrev pub HasOneMain : List SourceFile → Type 0
 HasOneMain files = (f : SourceFile) (j k : ℕ) (a b : Reactor) → slice_get files 0 ≡ Some f → slice_get f.tree.reactors.items j ≡ Some a → slice_get f.tree.reactors.items k ≡ Some b → a.is_main ≡ true → b.is_main ≡ true → j ≡ k
 
+-- where a file imports a reactor by its name, the other file has one of that name
+abbrev pub HasImports : List SourceFile → Type 0
+HasImports files = (file other k j : ℕ) (f : SourceFile) (what : Import) (name : ImportedName) → slice_get files file ≡ Some f → slice_get f.tree.imports.items k ≡ Some what → slice_get f.imports.items k ≡ Some other → slice_get what.names.items j ≡ Some name → is_some (own_class files other (string_bytes name.name.text)) ≡ true
+
 -- all that the instances of the program have is something
 pub record IsTaken (files : List SourceFile) (w : Widths) : Type 0 where
   pub inside : (path : List ℕ) (x : Inside) → LeadsToInstance files w path x → IsTakenInside files w x
   pub steps : AreFoundInSteps files w
   pub central : IsCentral files
   pub one_main : HasOneMain files
+  pub imports : HasImports files
