@@ -138,10 +138,14 @@ number_between t base i j = (kinds.Number (number_of base (slice_range t i j)), 
 unfoldable pub whole_number : List ℕ → ℕ → ℕ → TokenKind × ℕ
 whole_number t i j = if begins_hexadecimal t i then number_between t 16 (i + 2) (run_end is_hexadecimal t (i + 2)) else number_between t 10 i j
 
+-- whether the point of a decimal number stands at a place, with a digit behind it
+abbrev pub sees_fraction : List ℕ → ℕ → Bool
+sees_fraction t i = stands (codes ".") t i && sees is_digit t (i + 1)
+
 -- a number whose first digits end at j
 abbrev pub number_behind : List ℕ → ℕ → ℕ → TokenKind × ℕ
 number_behind t i j =
-    if stands (codes ".") t j && sees is_digit t (j + 1) then (kinds.Decimal, past_decimal t j)
+    if sees_fraction t j then (kinds.Decimal, past_decimal t j)
     else if nat_lt j (past_exponent t j) then (kinds.Decimal, past_exponent t j)
     else whole_number t i j
 
@@ -207,6 +211,7 @@ piece_at t i =
     else if stands (codes "'") t i then quote_at t i
     else if sees is_letter t i then Some (as_token kinds.Name (run_end is_word t i))
     else if sees is_digit t i then Some (as_token (number_at t i).0 (number_at t i).1)
+    else if sees_fraction t i then Some (as_token kinds.Decimal (past_decimal t i))
     else symbol_at t i
 
 -- ---- the whole text

@@ -1,8 +1,8 @@
 //! Numbers.
 
-ghost use Rattle.std.specs.Prelude.{◌≡◌, ◌<◌, ◌≤◌, ◌+◌, [], ◌∷◌, ◌&&◌, length, true, slice_range, Some};
+ghost use Rattle.std.specs.Prelude.{◌≡◌, ◌<◌, ◌≤◌, ◌+◌, length, true, slice_range, Some};
 ghost use Rattle.lft_lists.specs.Bytes.{is_digit};
-ghost use Rattle.lft_whole.specs.Pieces.{sees, stands, past_exponent, past_decimal, digit_value, number_of, begins_hexadecimal, whole_number, number_at};
+ghost use Rattle.lft_whole.specs.Pieces.{sees, sees_fraction, past_exponent, past_decimal, digit_value, number_of, begins_hexadecimal, whole_number, number_at};
 ghost use Rattle.lft_whole.specs.inner.Tokens.{IsPiece};
 
 use crate::classes::{
@@ -33,7 +33,7 @@ fn exponent_end(text: &[u8], at: usize) -> usize
 
 /// Where a decimal number ends whose point stands at a place, with digits after it.
 #[tactic(auto, unfolding(crate::specs::Pieces::past_decimal))]
-fn decimal_end(text: &[u8], point: usize) -> usize
+pub fn decimal_end(text: &[u8], point: usize) -> usize
     requires { point < length text.now }
     ensures is { result ≡ past_decimal text.now point }
     ensures within { (point < result) × (result ≤ length text.now) }
@@ -108,8 +108,8 @@ fn whole_number(text: &[u8], at: usize, end: usize) -> (TokenKind, usize)
 }
 
 /// Tells whether a point with a digit behind it stands at a place.
-fn point_stands(text: &[u8], at: usize) -> bool
-    ensures is { result ≡ (stands (46 ∷ []) text.now at && sees is_digit text.now (at + 1)) }
+pub fn point_stands(text: &[u8], at: usize) -> bool
+    ensures is { result ≡ sees_fraction text.now at }
     ensures inside { result ≡ true → at + 1 < length text.now }
 {
     stands(text, at, b'.') && digit_stands(text, at + 1)

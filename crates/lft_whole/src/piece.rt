@@ -7,7 +7,7 @@ use crate::classes::{
     digit_stands, gap_stands, is_printable, letter_stands, pair_stands, past_line, past_word,
     stands, three_stand,
 };
-use crate::numbers::number_piece;
+use crate::numbers::{decimal_end, number_piece, point_stands};
 use crate::quotes::{
     past_code, past_in_line, past_long_string, past_remark, past_string, past_three,
 };
@@ -147,6 +147,9 @@ pub fn piece(text: &[u8], at: usize) -> Option<(Option<TokenKind>, usize)>
     if digit_stands(text, at) {
         let (kind, end) = number_piece(text, at);
         return Some((Some(kind), end));
+    }
+    if point_stands(text, at) {
+        return Some((Some(TokenKind::Decimal), decimal_end(text, at)));
     }
     // Last, since what begins a remark, code or a string is a printable byte too.
     symbol_piece(text, at)

@@ -76,7 +76,7 @@ pub struct Width {
     pub terms: Vec<Term>,
 }
 
-/// A parameter of a reactor. It is a time by its type, or without a type by the unit of its default.
+/// A parameter of a reactor. It is a time by its type, or without a type by its default, which has a unit or is 0.
 #[derive(Debug, Drop)]
 pub struct Parameter {
     pub name: Name,

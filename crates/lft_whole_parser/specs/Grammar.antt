@@ -1,6 +1,6 @@
 -- The grammar of whole texts: each production, and the part of the tree that it reads. A comment above one
 -- has it as grammars are written: [ ] may be left out, { } is read over and over, | has what is tried in order.
-use Rattle.std.specs.Prelude.{ℕ, ◌+◌, ◌-◌, List, [], ◌∷◌, ◌++◌, codes, slice_get, Option, Some, None, Ok, Err, Bool, true, false, ◌||◌, ◌==◌}
+use Rattle.std.specs.Prelude.{ℕ, zero, ◌+◌, ◌-◌, List, [], ◌∷◌, ◌++◌, codes, slice_get, Option, Some, None, Ok, Err, Bool, true, false, ◌||◌, ◌==◌}
 use Rattle.lft_syntax.specs.{declared.token.Token.Token, Lexeme.{Code, Arrow, TildeArrow, is, is_there}}
 use Rattle.lft_whole.specs.declared.fault.TreeFault.TheVariants.{Unexpected}
 use Rattle.lft_whole.specs.Parts.Lexeme.{is_word}
@@ -303,20 +303,21 @@ body = symbol 123 >> members
 
 -- ---- reactors
 
--- whether a value has a unit of time
-abbrev pub has_time_unit : ValueTree → Bool
-has_time_unit (NumberValue _ _ (Some _)) = true
-has_time_unit _ = false
+-- whether a value writes a time: it has a unit of time, or it is 0
+abbrev pub writes_time : ValueTree → Bool
+writes_time (NumberValue _ _ (Some _)) = true
+writes_time (NumberValue _ zero None) = true
+writes_time _ = false
 
--- whether there is a value, and it has a unit of time
-abbrev pub has_unit : Option ExpressionTree → Bool
-has_unit None = false
-has_unit (Some e) = has_time_unit e.value
+-- whether there is a value, and it writes a time
+abbrev pub has_time : Option ExpressionTree → Bool
+has_time None = false
+has_time (Some e) = writes_time e.value
 
 -- whether a parameter is a time: by its type, or without a type by its default
 abbrev pub is_time : Option Bool → Option ExpressionTree → Bool
 is_time (Some by_type) default = by_type
-is_time None default = has_unit default
+is_time None default = has_time default
 
 -- a parameter of this name, type and default
 abbrev pub parameter_tree_of : (NameTree × Option Bool) × Option ExpressionTree → ParameterTree

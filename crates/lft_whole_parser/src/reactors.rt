@@ -16,17 +16,17 @@ use lft_whole::parts::types::typed;
 use lft_whole::parts::values::initial;
 use lft_whole::{Expression, Name, Parameter, Reactor, TreeFault, WrittenValue};
 
-/// Whether a value has a unit of time.
-fn has_unit(value: &Option<Expression>) -> bool
-    ensures { result ≡ Grammar.has_unit (option_map expression_view value.now) }
+/// Whether a value writes a time.
+fn has_time(value: &Option<Expression>) -> bool
+    ensures { result ≡ Grammar.has_time (option_map expression_view value.now) }
 {
-    match value {
-        Some(
-            Expression {
-                value: WrittenValue::Number { unit: Some(_), .. },
-                ..
-            },
-        ) => true,
+    let Some(expression) = value else {
+        return false;
+    };
+    match &expression.value {
+        WrittenValue::Number { unit: Some(_), .. } => true,
+        // 0 is a time without a unit too. Of any other use of the parameter nothing is decided by this.
+        WrittenValue::Number { count: 0, .. } => true,
         _ => false,
     }
 }
@@ -37,7 +37,7 @@ fn is_time(type_is_time: Option<bool>, default: &Option<Expression>) -> bool
 {
     match type_is_time {
         Some(is_time) => is_time,
-        None => has_unit(default),
+        None => has_time(default),
     }
 }
 

@@ -1,10 +1,10 @@
 -- The grammar of whole texts: each production, and the part of the tree that it reads. A comment above one
 -- has it as grammars are written: [ ] may be left out, { } is read over and over, | has what is tried in order.
-use Rattle.std.specs.Prelude.{ℕ, ◌+◌, List, [], ◌∷◌, codes, nat_lt, Option, Some, None, Result, Ok, Err, Bool, true, false, not, ◌&&◌, ◌==◌, if◌then◌else◌}
+use Rattle.std.specs.Prelude.{ℕ, ◌+◌, ◌-◌, List, [], ◌∷◌, codes, nat_lt, Option, Some, None, Result, Ok, Err, Bool, true, false, not, ◌&&◌, ◌==◌, if◌then◌else◌}
 use Rattle.lft_tree.specs.declared.tree.TimeUnit.{TimeUnit}
 use Rattle.lft_whole.specs.declared.fault.TreeFault.{TreeFault}
 use Rattle.lft_whole.specs.Parts.Lexeme.{Source, see, letters_in, is_word}
-use Rattle.lft_whole.specs.Parts.Language.{Reader, ◌>>=◌, Test, on, sign, word, next, ◌and◌, ◌or◌, isnt, token, one, symbol, key, this, flag, ◌&◌, ◌>>◌, ◌<<◌, ◌then◌, nothing, made, made_at, ignored, choice, optional, passed, passing, separated, listed, opened, group, past_group}
+use Rattle.lft_whole.specs.Parts.Language.{Reader, ◌>>=◌, Test, on, sign, word, next, ◌and◌, ◌or◌, isnt, token, one, symbol, key, this, flag, repeat, ◌&◌, ◌>>◌, ◌<<◌, ◌then◌, nothing, made, made_at, ignored, choice, optional, passed, passing, separated, listed, opened, group, past_group}
 use Rattle.lft_whole.specs.Parts.Tree.{NameTree, ReferenceTree, ValueTree, NumberValue, WordValue, CodeValue, OtherValue, ExpressionTree, CountTree, NumberCount, WordCount, WidthOf, CodeCount, OpenCount, TermTree, EffectTree, ToMode, ToReference}
 use Rattle.lft_syntax.specs.{Lexeme.{Lexeme, Code, Text, Letters, Number, Decimal, Arrow, TildeArrow, is, name_in, unit_in, number_in}, Language.look}
 
@@ -44,9 +44,47 @@ on_sign = sign 42 or sign 38
 unfoldable pub signs : Reader (Unit {0})
 signs = passing on_sign this
 
--- CODE | group of { } | joined_names [group of < >] signs
+-- CODE | joined_names [group of < >] signs
+unfoldable pub plain_type : Reader (Unit {0})
+plain_type = choice (on (is Code)) (one (on (is Code))) (joined_names >> past_group 60 62 >> signs)
+
+-- in a record type: how many are open, one in the other, and whether a type stands before the place
+abbrev pub InRecord : Type 0
+InRecord = ℕ × Bool
+
+-- "{" | plain_type
+unfoldable pub field_type : ℕ → Reader InRecord
+field_type depth = choice (sign 123) (this >> nothing (depth + 1, false)) (plain_type >> nothing (depth, true))
+
+-- WORD ["?"] ":" field_type
+unfoldable pub field : ℕ → Reader InRecord
+field depth = one (on is_word) >> flag (sign 63) >> symbol 58 >> field_type depth
+
+-- "}"
+unfoldable pub record_end : ℕ → Reader InRecord
+record_end depth = symbol 125 >> nothing (depth - 1, true)
+
+-- group of [ ] | "|" field_type | "," | ";" | "}"
+unfoldable pub behind_type : ℕ → Reader InRecord
+behind_type depth =
+    choice (sign 91) (group 91 93 >> nothing (depth, true)) (choice (sign 124) (this >> field_type depth)
+    (choice (sign 44 or sign 59) (this >> nothing (depth, false)) (record_end depth)))
+
+-- behind a type what goes on with it or ends it, else "}" | field
+unfoldable pub record_step : InRecord → Reader InRecord
+record_step r = if r.1 then behind_type r.0 else choice (sign 125) (record_end r.0) (field r.0)
+
+-- some record type is open
+abbrev pub is_open : ℕ → Bool
+is_open depth = not (depth == 0)
+
+-- {record_step}, up to the "}" of the outermost
+unfoldable pub record_rest : Reader (Unit {0})
+record_rest = ignored (repeat (λ r _ _. is_open r.0) record_step (1, false))
+
+-- "{" record_rest | plain_type
 unfoldable pub element : Reader (Unit {0})
-element = choice (on (is Code)) (one (on (is Code))) (choice (sign 123) (group 123 125) (joined_names >> past_group 60 62 >> signs))
+element = choice (sign 123) (symbol 123 >> record_rest) plain_type
 
 -- {group of [ ]}
 unfoldable pub arrays : Reader (Unit {0})
@@ -107,9 +145,13 @@ unit s i = if on_follower s (i + 1) then Ok (None, i) else with_unit (look unit_
 abbrev pub quantity : Bool → Reader ValueTree
 quantity negative = choice (on (is Decimal)) (made other_value this) (made (number_value negative) (token number_in & unit))
 
--- ["-"] quantity
+-- ["-" | "+"]: whether it is "-"
+unfoldable pub minus : Reader Bool
+minus s i = Ok (sign 45 s i, if (sign 45 or sign 43) s i then i + 1 else i)
+
+-- minus quantity
 unfoldable pub number : Reader ExpressionTree
-number = made_at expression_of (flag (sign 45) then quantity)
+number = made_at expression_of (minus then quantity)
 
 -- a point with a word behind it
 abbrev pub on_path : Test

@@ -2,14 +2,13 @@
 
 ghost use Rattle.std.specs.Prelude.{◌≡◌, ◌<◌, true, IfOk, IfErr, option_map, ◌+◌, Ok};
 ghost use Rattle.lft_whole.specs.inner.Parts.{Parsing.{count, Within, Further, NotBefore, Refuses, source}, View.{Gives, at_next}};
-ghost use Rattle.lft_whole.specs.Parts.{Language.ignored, View.expression_view};
+ghost use Rattle.lft_whole.specs.Parts.{Language.{ignored, sign}, View.expression_view};
 ghost use Rattle.lft_whole.specs.Parts.Parts as Parts;
 
 use crate::parts::groups::{group_end, opens_values};
 use crate::parts::lexed::LexedText;
 use crate::parts::tokens::{
-    is_arrow, is_code, is_symbol, is_text, is_tilde_arrow, is_word, past_item, past_symbol, peek,
-    unit,
+    is_arrow, is_code, is_symbol, is_text, is_tilde_arrow, is_word, past_item, peek, unit,
 };
 use crate::{Expression, TreeFault, WrittenValue};
 use lft_syntax::{Seen, text_of};
@@ -41,6 +40,20 @@ fn unit_behind(input: &LexedText, at: usize) -> (Option<TimeUnit>, usize)
     }
 }
 
+/// The place behind a sign, or this one where none stands.
+#[tactic(auto, unfolding(crate::specs::Parts::Parts::minus))]
+fn past_sign(input: &LexedText, at: usize) -> usize
+    requires { Within input.now at }
+    ensures is { Parts.minus (source input.now) at ≡ Ok (sign 45 (source input.now) at, result) }
+    ensures inside { NotBefore input.now at result }
+{
+    if is_symbol(input, at, b'-') || is_symbol(input, at, b'+') {
+        at + 1
+    } else {
+        at
+    }
+}
+
 /// A number, with a sign and a unit or without.
 #[tactic(auto, unfolding(crate::specs::Parts::Parts::number))]
 fn number(input: &LexedText, at: usize) -> Result<(Expression, usize), TreeFault>
@@ -50,7 +63,7 @@ fn number(input: &LexedText, at: usize) -> Result<(Expression, usize), TreeFault
     ensures err { IfErr result (Refuses input.now) }
 {
     let is_signed = is_symbol(input, at, b'-');
-    let first = past_symbol(input, at, b'-');
+    let first = past_sign(input, at);
     match peek(input, first) {
         Some(Seen::Decimal) => Ok((
             Expression {
