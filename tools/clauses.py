@@ -29,6 +29,8 @@ PUBLIC = {
     "lft_check": "judge judge_alone Watch NoWatch",
     "lft_queue": "Queue",
     "lft_pool": "*",
+    "lft_monitor": "law_sure",
+    "lft_report": "law_race",
     "lft_pair": "pair",
     "lft_load": "load read_input finish plan_of",
     "lft_record": "*",

@@ -10,7 +10,7 @@ use Rattle.lft_queue.{specs.{inner.{Reading.is_read, Coming.AtOnce.IsAwaited}, C
 use Rattle.lft_model.specs.{declared.breach.Breach.Breach, Breaches.TagBreachUntil, Plans.PlanParts}
 use Rattle.lft_model.specs.Presence.{written, scheduled, given, min_delay, events_of, IsWrittenFrom, At, Shows, Inputs, OccursUntil, TriggeredUntil, PortClash, ClashesAt, Collision}
 use Rattle.lft_model.specs.Runs.{reads_at}
-use Rattle.lft_monitor.specs.inner.{Sure.{CauseSame, DroppedLaw}, Kept.{GoesUnheard, CauseAlike}}
+use Rattle.lft_monitor.specs.{Sure.{CauseSame, DroppedLaw}, inner.Kept.{GoesUnheard, CauseAlike}}
 use Rattle.lft_monitor.proofs.{Keeping.{AreLate, own_clash}, Same.{SameAt, same_breach}}
 use Rattle.lft_stream.proofs.Before.{ran_second, ran_whole, too_early_second, too_early_whole, reads_second}
 

@@ -4,7 +4,7 @@ use Rattle.lft_tag.{specs.{declared.Tag.Tag, Tags.{Before, UpTo}}, proofs.Order.
 use Rattle.lft_lists.proofs.Members.{Mem, get_mem}
 use Rattle.lft_ir.specs.declared.steps.row.Row.{Row}
 use Rattle.lft_model.specs.{declared.breach.Breach.Breach, Plans.PlanParts, Presence.stop, Breaches.{TagBreach, TagOrder}}
-use Rattle.lft_monitor.{specs.inner.Sure.{AreRowsFrom, FinishedLaw, ToldLaw}, proofs.Same.{SameAt, same_breach}}
+use Rattle.lft_monitor.{specs.Sure.{AreRowsFrom, FinishedLaw, ToldLaw}, proofs.Same.{SameAt, same_breach}}
 use Rattle.lft_stream.proofs.Behind.{ran_added, ran_back, too_early_added, too_early_back, reads_added, reads_back, in_time_added, in_time_back, triggered_added, triggered_back, collision_added, collision_back}
 
 module _ (plan : PlanParts) (d u : List Row) (low : Tag) (from : AreRowsFrom u low) (h : Tag) (before : Before h low) where

@@ -8,7 +8,7 @@ use Rattle.lft_model.specs.{declared.breach.Breach.Breach, Plans.PlanParts, Pres
 use Rattle.lft_model.proofs.Stops.{stop_append}
 use Rattle.lft_check.specs.inner.Verdicts.{LeastOf, BreachFrom}
 use Rattle.lft_stream.proofs.Parting.{up_to_second}
-use Rattle.lft_monitor.specs.{inner.{Sure.AreRowsFrom, Kept.IsPastOfRows, Follows.BeginsLast}, Sure.IsFirstBefore, declared.past.Past.Past}
+use Rattle.lft_monitor.specs.{inner.{Kept.IsPastOfRows, Follows.BeginsLast}, Sure.{AreRowsFrom, IsFirstBefore}, declared.past.Past.Past}
 use Rattle.lft_monitor.specs.Follows.{IsFirstBehind, KeepsButLast}
 use Rattle.lft_monitor.proofs.{Dropped.dropped_alike, Finished.finished_law, Keeping.{alike_nearer, from_late, kept_before, kept_stop}}
 

@@ -12,7 +12,7 @@ use Rattle.lft_model.specs.Presence.{asked, requests, scheduled, stop, value_wri
 use Rattle.lft_model.proofs.{Ended.written_by, Places.slice_get_within, Steps.written_some, Stops.stop_append}
 use Rattle.lft_queue.specs.{Coming.AtTag.AreBefore, inner.Reading.is_read}
 use Rattle.lft_stream.specs.inner.Owed.{MeetNowhere}
-use Rattle.lft_monitor.specs.inner.{Sure.AreRowsFrom, Kept.{GoesUnheard, CauseAlike, IsIdle, IsKept}}
+use Rattle.lft_monitor.specs.{Sure.AreRowsFrom, inner.Kept.{GoesUnheard, CauseAlike, IsIdle, IsKept}}
 
 -- what two lists pick of theirs, one behind the other
 over : {X : Type 0} (f : Row → Option X) (d e u v : List Row) → filter_map f d ≡ filter_map f e → filter_map f u ≡ filter_map f v → filter_map f (d ++ u) ≡ filter_map f (e ++ v)

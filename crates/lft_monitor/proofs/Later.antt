@@ -9,7 +9,7 @@ use Rattle.lft_ir.specs.Steps.Inputs.{ExternalInputs}
 use Rattle.lft_model.specs.Plans.{PlanParts}
 use Rattle.lft_model.specs.Presence.{scheduled, given, min_delay, events_of, IsWrittenFrom, At, Shows, Inputs, OccursUntil, Triggered, ClashesAt, Collision, stop}
 use Rattle.lft_model.specs.{Runs.reads_at, Breaches.{IsTooEarly, TagBreach}}
-use Rattle.lft_monitor.{specs.inner.Sure.{with_inputs, LaterInputsLaw}, proofs.Same.{SameAt, same_breach}}
+use Rattle.lft_monitor.{specs.Sure.{with_inputs, LaterInputsLaw}, proofs.Same.{SameAt, same_breach}}
 
 -- what one list of external inputs has at g the other has too, of two plans with one program
 module _ (plan : PlanParts) (one other : ExternalInputs) (t : List Row) (g : Tag) (alike : (a : ℕ) → filter_map (given g a) one.events ≡ filter_map (given g a) other.events) where

@@ -7,7 +7,7 @@ use Rattle.lft_model.specs.{declared.breach.Breach.Breach, Plans.PlanParts, Pres
 use Rattle.lft_model.specs.Breaches.{BreaksRowUntil, RowBreachUntil}
 use Rattle.lft_queue.specs.{inner.Coming.{Listens.Listens, Listeners.AreNameListeners}, declared.coming.listeners.NameListeners.NameListeners}
 use Rattle.lft_stream.specs.{declared.due.Due.{Due, TheVariants.{AtTag, AtStop, Never}}, inner.{Dues.{IsDue, AreDues}, Settled.IsRightRun}}
-use Rattle.lft_monitor.{specs.inner.{Sure.with_inputs, Kept.{GoesUnheard, IsKept}}, proofs.Same.SameAt}
+use Rattle.lft_monitor.{specs.{Sure.with_inputs, inner.Kept.{GoesUnheard, IsKept}}, proofs.Same.SameAt}
 
 module _ (plan : PlanParts) (inputs : ExternalInputs) where
   abbrev other : PlanParts

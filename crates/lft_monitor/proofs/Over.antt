@@ -11,7 +11,7 @@ use Rattle.lft_model.proofs.Places.{slice_get_within, slice_get_take, slice_get_
 use Rattle.lft_rows.specs.inner.{Firsts.FirstRow, Parts.AreEarlier, Passes.{FirstUnended, KeepsEarly}}
 use Rattle.lft_queue.specs.Coming.AtTag.{AreBefore}
 use Rattle.lft_stream.proofs.{Parting.up_to_second, Settling.rows_until}
-use Rattle.lft_monitor.specs.{inner.{Sure.AreRowsFrom, Going.IsGoneTo, Kept.IsPastOfRows, Follows.BeginsLast}, declared.past.Past.Past}
+use Rattle.lft_monitor.specs.{Sure.AreRowsFrom, inner.{Going.IsGoneTo, Kept.IsPastOfRows, Follows.BeginsLast}, declared.past.Past.Past}
 use Rattle.lft_monitor.specs.Follows.{IsQuiet, KeepsButLast}
 use Rattle.lft_monitor.proofs.{Finished.finished_law, Hand.breaks_own, Rows.breaks_back}
 

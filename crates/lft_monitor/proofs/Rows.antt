@@ -6,7 +6,7 @@ use Rattle.lft_lists.proofs.Places.{get_left, get_append_cases}
 use Rattle.lft_ir.specs.declared.steps.row.{Row.Row, Step.{Step, TheVariants.{Start, Read, Write, Schedule, Stop, End}}}
 use Rattle.lft_model.specs.{Plans.PlanParts, Presence.stop, Runs.{start_row, end_row}, Breaches.{IsOpen, IsOutOfOrder, IsUndeclared, BreaksRowUntil}}
 use Rattle.lft_model.proofs.Stops.{stop_append}
-use Rattle.lft_monitor.specs.inner.Sure.{RowLaw}
+use Rattle.lft_monitor.specs.Sure.{RowLaw}
 
 module _ (d u : List Row) where
   -- a row of the whole before the end of the first part is one of the first part

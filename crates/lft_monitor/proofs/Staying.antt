@@ -4,7 +4,7 @@ use Rattle.lft_tag.{specs.{declared.Tag.Tag, Tags.{Before, UpTo}}, proofs.Order.
 use Rattle.lft_lists.proofs.Places.{get_left, get_append_cases}
 use Rattle.lft_ir.specs.declared.steps.row.Row.{Row}
 use Rattle.lft_model.specs.{declared.breach.Breach.Breach, Plans.PlanParts, Presence.stop, Runs.end_row, Breaches.{IsUnended, BreaksRowUntil, RowBreach}}
-use Rattle.lft_monitor.{specs.inner.Sure.{AreRowsFrom, SureLaw}, proofs.{Rows.row_law, Finished.finished_law}}
+use Rattle.lft_monitor.{specs.Sure.{AreRowsFrom, SureLaw}, proofs.{Rows.row_law, Finished.finished_law}}
 
 module _ (d u : List Row) (low : Tag) (from : AreRowsFrom u low) where
   -- a run at a finished tag gets no end row any more

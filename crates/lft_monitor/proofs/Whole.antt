@@ -3,7 +3,7 @@ use Rattle.std.proofs.Common.{◌≡◌, ℕ, ◌+◌, ◌≤◌, ◌⊎◌, inl
 use Rattle.lft_tag.{specs.{declared.Tag.Tag, Tags.{Before, UpTo, after}}, proofs.Order.{UpTo-Before, after_past, order_cases}}
 use Rattle.lft_ir.specs.declared.steps.row.Row.{Row}
 use Rattle.lft_model.specs.{declared.breach.Breach.Breach, Plans.PlanParts, Presence.stop, Breaches.{BreaksRowUntil, RowBreach, Legal}}
-use Rattle.lft_monitor.specs.{Sure.IsUnbroken, inner.Sure.WholeLaw}
+use Rattle.lft_monitor.specs.Sure.{IsUnbroken, WholeLaw}
 
 module _ (plan : PlanParts) (t : List Row) where
   behind : (g : Tag) → UpTo g (stop plan t) → Before g (after (stop plan t) 0)

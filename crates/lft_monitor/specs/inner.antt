@@ -2,5 +2,4 @@ pub mod Follows
 pub mod Going
 pub mod Kept
 pub mod OpenRuns
-pub mod Sure
 pub mod Timely

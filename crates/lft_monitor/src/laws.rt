@@ -1,6 +1,6 @@
 //! Laws of rows that come one after another. They do no work.
 
-ghost use Rattle.lft_monitor.specs.inner.{Sure.{FinishedLaw, ToldLaw, RowLaw, SureLaw, WholeLaw, DroppedLaw, LaterInputsLaw}, Timely.{TimelyLaw, OverdueLaw}};
+ghost use Rattle.lft_monitor.specs.{Sure.{FinishedLaw, ToldLaw, RowLaw, SureLaw, WholeLaw, DroppedLaw, LaterInputsLaw}, inner.Timely.{TimelyLaw, OverdueLaw}};
 
 use lft_model::Plan;
 

@@ -6,7 +6,7 @@ ghost use Rattle.lft_ir.specs.{declared.steps.row.Row.Row as TheRow, Steps.Fits.
 ghost use Rattle.lft_model.specs.{Presence.stop, Breaches.First};
 ghost use Rattle.lft_stream.specs.inner.Owed.{MeetNowhere};
 ghost use Rattle.lft_rows.specs.{inner.Slices.Rises, Answers.Answers.KeepsRows};
-ghost use Rattle.lft_monitor.specs.{inner.{Sure.AreRowsFrom, Kept.IsPastOfRows}, Sure.{IsUnbroken, IsFirstBefore}, Follows.breach_of};
+ghost use Rattle.lft_monitor.specs.{inner.Kept.IsPastOfRows, Sure.{AreRowsFrom, IsUnbroken, IsFirstBefore}, Follows.breach_of};
 
 use crate::found::{BrokenRule, found_of};
 use crate::gone::stop_over;

@@ -12,4 +12,3 @@ pub mod Shortened
 pub mod Told
 pub mod Explained
 pub mod Quotes
-pub mod inner

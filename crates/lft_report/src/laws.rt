@@ -1,6 +1,6 @@
 //! A law of what is explained. It does no work.
 
-ghost use Rattle.lft_report.specs.inner.Explained.{RaceLaw};
+ghost use Rattle.lft_report.specs.Explained.{RaceLaw};
 
 use lft_model::Plan;
 

@@ -7,7 +7,7 @@ use Rattle.lft_model.specs.{Plans.PlanParts, Presence.stop, Breaches.First, Acce
 use Rattle.lft_rows.specs.inner.Firsts.{FirstRow}
 use Rattle.lft_queue.specs.Coming.AtTag.{AreAt, AreBefore}
 use Rattle.lft_stream.specs.inner.Kept.{IsAcceptorOf, stopped_stream}
-use Rattle.lft_monitor.specs.inner.{Sure.with_inputs, Kept.IsPastOfRows, Going.{IsGoing, IsGoneTo}}
+use Rattle.lft_monitor.specs.{Sure.with_inputs, inner.{Kept.IsPastOfRows, Going.{IsGoing, IsGoneTo}}}
 use Rattle.lft_monitor.specs.declared.{gone.Going.Going, reach.Reach.Reach, judged.{Judged.Judged, Closing.Closing, Ending.Ending, Unjudged.Unjudged}}
 use Rattle.lft_monitor.specs.declared.follower.{Follower.Follower, Hitch.Hitch, Progress.{Progress, TheVariants.{GoesOn, Broken, Odd, TooMany}}}
 use Rattle.lft_monitor.specs.declared.follower.Receipt.{Receipt}
