@@ -250,6 +250,15 @@ class Checks(unittest.TestCase):
         self.assertEqual(file.bytes.decode(), front)
         self.assertTrue(why_of(log.save_front, *self.paths, STOP) and why_of(log.finish, STOP))
 
+    def test_text_file(self):
+        """A file in text mode, held by the log alone."""
+        log = lftrace.Log()
+        log.follow(open(self.paths[0], "w", encoding="utf-8"))
+        record(log)
+        log.finish(STOP)
+        self.assertEqual(split(self.paths[0].read_text()), (WHOLE, EXTERNALS))
+        log._followed.given.close()
+
     def test_refused_memory(self):
         """A log whose rows get no more memory has no table. Of a row that can't be made too."""
         for name in ("append", "place"):

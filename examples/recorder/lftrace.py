@@ -92,7 +92,7 @@ class Log:
     def follow(self, file):
         """The rows go to a file from now on, as one log of both tables, and aren't kept once they are there. It is
         called before the workers begin. Nothing else writes to the file. It isn't closed."""
-        self._followed = Followed(getattr(file, "buffer", file))
+        self._followed = Followed(file)
         self._followed.why = self._followed.write([TRACE_HEADER])
 
     def flush(self):
@@ -171,7 +171,8 @@ class Followed:
     """The file of a log that is followed, how many rows it has, and why it gets no more."""
 
     def __init__(self, file):
-        self.file, self.lock, self.written, self.why = file, threading.Lock(), 0, None
+        self.given = file  # a text file closes its buffer where nobody holds it
+        self.file, self.lock, self.written, self.why = getattr(file, "buffer", file), threading.Lock(), 0, None
 
     def write(self, rows):
         """Writes all rows, and gives None, or why it couldn't."""
