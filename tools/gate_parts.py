@@ -26,6 +26,7 @@ LFTRACE = (
     "tools/check-words PROGRAM",
     "examples/seeing/check",
     "examples/pipeline/check",
+    "examples/importers/check",
     "examples/recorder/run 20",
     "examples/work_stealing/run 20 4 15000",
     "examples/starts_and_ends/run 20",
