@@ -29,6 +29,7 @@ LFTRACE = (
     "examples/importers/check",
     "examples/recorder/run 20",
     "examples/work_stealing/run 20 4 15000",
+    "examples/work_stealing/blame 5",
     "examples/starts_and_ends/run 20",
     "examples/engines/run 5",
     "examples/systemc/run",
