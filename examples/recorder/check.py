@@ -248,7 +248,8 @@ class Checks(unittest.TestCase):
         while file.bytes.count(b"\n") < 2:
             log.flush()
         self.assertEqual(file.bytes.decode(), front)
-        self.assertTrue(why_of(log.save_front, *self.paths, STOP) and why_of(log.finish, STOP))
+        self.assertEqual(why_of(log.save_front, *self.paths, STOP), "the log is followed: flush writes what is there")
+        self.assertEqual(why_of(log.finish, STOP), "a run is still open: main#1")
 
     def test_text_file(self):
         """A file in text mode, held by the log alone."""

@@ -78,6 +78,7 @@ class Log:
         a trace with the external inputs of another run.
         """
         refuse(self._lacks())
+        refuse(self._followed and "the log is followed: finish ends it")
         self._place_tables(trace, externals, stop)
 
     def save_front(self, trace, externals, stop):
@@ -87,6 +88,7 @@ class Log:
         Any thread may call it, while workers run or hang, and they may go on. Don't take a lock of the runtime to find
         the stop: any later tag will do.
         """
+        refuse(self._followed and "the log is followed: flush writes what is there")
         self._place_tables(trace, externals, stop)
 
     def follow(self, file):
@@ -150,7 +152,6 @@ class Log:
         return next(is_open, None)
 
     def _place_tables(self, trace, externals, stop):
-        refuse(self._followed and "the log is followed: finish ends it")
         rows = self._rows[:MOST]
         refuse(self._fault)
         parts = [f"{os.fspath(path)}.part" for path in (trace, externals)]
