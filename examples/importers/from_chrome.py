@@ -1,5 +1,7 @@
 #!/usr/bin/env python3
-"""from_chrome.py JSON > starts.csv: starts and ends of trace events, as Chrome and Perfetto show them.
+"""from_chrome.py JSON SHOWN > starts.csv: starts and ends of trace events, as Chrome and Perfetto show them.
+
+SHOWN is the output of `lftrace show --lower PROGRAM`.
 
 THE FORMAT IS FROM MEMORY, and what a runtime puts into it is its own choice. Look first at:
 - the events: `ph` is X with `ts` and `dur`, or B and E with `ts`; in `traceEvents`, or in a list;
@@ -21,9 +23,9 @@ def events(path):
 
 
 def main():
-    runs_of, open_of = {}, {}
+    (path, shown), runs_of, open_of = merging.words(), {}, {}
     # Events of one time keep their order.
-    for event in sorted((it for it in events(merging.words()) if it.get("ph") in ("X", "B", "E")), key=lambda it: it["ts"]):
+    for event in sorted((it for it in events(path) if it.get("ph") in ("X", "B", "E")), key=lambda it: it["ts"]):
         worker, clock, args = (event.get("pid", 0), event.get("tid", 0)), event["ts"], event.get("args", {})
         runs, nested = runs_of.setdefault(worker, []), open_of.setdefault(worker, [])
         run = (args["time"], args["microstep"], event["name"]) if "microstep" in args else None
@@ -35,7 +37,7 @@ def main():
             runs.append((clock, "start", *run))
         if run and event["ph"] != "B":
             runs.append((clock + event.get("dur", 0), "end", *run))
-    merging.write(runs_of)
+    merging.write(runs_of, shown)
 
 
 main()

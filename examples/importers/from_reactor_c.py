@@ -1,5 +1,7 @@
 #!/usr/bin/env python3
-"""from_reactor_c.py TABLE > starts.csv: starts and ends of the table that reactor-c's trace_to_csv writes.
+"""from_reactor_c.py TABLE SHOWN > starts.csv: starts and ends of the table that reactor-c's trace_to_csv writes.
+
+SHOWN is the output of `lftrace show --lower PROGRAM`.
 
 THE FORMAT IS FROM MEMORY. Look first at:
 - the names of the columns: Event, Reactor, Source, Destination, Elapsed Logical Time, Microstep, Elapsed Physical Time;
@@ -22,14 +24,14 @@ def reaction(reactor, number):
 
 
 def main():
-    runs_of = {}
-    with open(merging.words(), newline="", encoding="utf-8") as table:
+    (path, shown), runs_of = merging.words(), {}
+    with open(path, newline="", encoding="utf-8") as table:
         for row in csv.DictReader(table, skipinitialspace=True):
             event = EVENTS.get(row["Event"])
             if event:
                 run = event, row["Elapsed Logical Time"], row["Microstep"], reaction(row["Reactor"], row["Destination"])
                 runs_of.setdefault(int(row["Source"]), []).append((int(row["Elapsed Physical Time"]), *run))
-    merging.write(runs_of)
+    merging.write(runs_of, shown)
 
 
 main()

@@ -1,5 +1,7 @@
 #!/usr/bin/env python3
-"""from_reactor_cpp.py TEXT > starts.csv: starts and ends of what babeltrace prints of a trace of reactor-cpp.
+"""from_reactor_cpp.py TEXT SHOWN > starts.csv: starts and ends of what babeltrace prints of a trace of reactor-cpp.
+
+SHOWN is the output of `lftrace show --lower PROGRAM`.
 
 THE FORMAT IS FROM MEMORY. Look first at:
 - the events: `reactor_cpp:reaction_execution_starts` and `reactor_cpp:reaction_execution_finishes`;
@@ -29,8 +31,8 @@ def reaction(name):
 
 
 def main():
-    found, last, days = [], 0, 0
-    with open(merging.words(), encoding="utf-8") as text:
+    (path, shown), found, last, days = merging.words(), [], 0, 0
+    with open(path, encoding="utf-8") as text:
         for line in filter(None, map(LINE.match, text)):
             hour, minute, second, nano, event, worker, name, time, microstep = line.groups()
             clock = (int(hour or 0) * 3600 + int(minute or 0) * 60 + int(second)) * 10**9 + int(nano)
@@ -40,7 +42,7 @@ def main():
     first, runs_of = min((it[3] for it in found), default=0), {}
     for worker, clock, event, time, microstep, name in found:
         runs_of.setdefault(worker, []).append((clock, "start" if event == "starts" else "end", time - first, microstep, name))
-    merging.write(runs_of)
+    merging.write(runs_of, shown)
 
 
 main()
