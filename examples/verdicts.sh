@@ -3,7 +3,9 @@
 
 top=$(cd "$here/../.." && pwd)
 lftrace=${LFTRACE:-crates/lftrace/out/lftrace}
-found=$(cd "$top" && command -v "$lftrace") || { echo "run: there is no program $lftrace" >&2; exit 3; }
+# In an archive it is the one on the PATH.
+[ -n "${LFTRACE:-}" ] || [ -e "$top/$lftrace" ] || lftrace=$(command -v lftrace || echo "$lftrace")
+found=$(cd "$top" && command -v "$lftrace") || { echo "run: there is no program $lftrace: LFTRACE may name one" >&2; exit 3; }
 case $found in /*) lftrace=$found ;; *) lftrace=$top/$found ;; esac
 case $runs in '' | 0* | *[!0-9]*) echo "run: $runs is no number of runs" >&2; exit 2 ;; esac
 

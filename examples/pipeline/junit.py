@@ -14,6 +14,7 @@ import sys
 import time
 from xml.sax.saxutils import escape, quoteattr
 
+LFTRACE = os.environ.get("LFTRACE") or "lftrace"
 # What an answer with this status begins with.
 FIRST_WORDS = {0: "accepted ", 1: "broken "}
 NOT_XML = re.compile("[^\t\n\r -\ud7ff\ue000-\ufffd\U00010000-\U0010ffff]")
@@ -24,21 +25,31 @@ def text(raw):
     return NOT_XML.sub("\ufffd", raw.decode("utf-8", "replace"))
 
 
-def judge(program, externals, trace):
-    """The status, the line of lftrace, its facts, and how long it took."""
-    begun = time.monotonic()
-    words = [os.environ.get("LFTRACE") or "lftrace", "explain", "--lower", "--", program, externals, trace]
+def run(*words):
+    """Status, output and errors of a command, or that there is none."""
     try:
         done = subprocess.run(words, check=False, stdin=subprocess.DEVNULL, capture_output=True)
-        # A fault stands on standard error, and why on standard output.
-        status, said = done.returncode, text(done.stderr + done.stdout).strip()
+        return done.returncode, text(done.stdout), text(done.stderr)
     except OSError as fault:
-        status, said = 2, str(fault)
+        return 2, "", str(fault)
+
+
+def judge(program, externals, trace, command="explain"):
+    """The status, the line of lftrace, its facts, and how long it took."""
+    begun = time.monotonic()
+    status, said, fault = run(LFTRACE, command, "--lower", "--", program, externals, trace)
+    said = (fault + said).strip()
     # Otherwise it isn't lftrace that answers: a signal ended it, or it is another program.
     if status != 2 and not (status in FIRST_WORDS and said.startswith(FIRST_WORDS[status])):
         status, said = 2, f"fault: status {status} {said}".strip()
     line, _, facts = said.partition("\n")
     return status, line, facts.strip("\n"), time.monotonic() - begun
+
+
+def refusal(program):
+    """The fault of a program that is refused and why, or nothing."""
+    status, why, fault = run(LFTRACE, "explain", "--lower", "--", program)
+    return (fault.strip(), why.strip("\n")) if status == 2 and fault.startswith("fault ") else ("", "")
 
 
 def name_of(line):

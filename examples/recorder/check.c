@@ -315,7 +315,7 @@ static void front_of_a_hang(bool followed) {
   else expect(!lft_save_front(lft, trace_path, externals_path, 7, 8), "there is a front of a hang");
   const char *path = followed ? log_path : trace_path;
   expect_text(path, LFT_TRACE_HEADER "start,0,2,0,main#1,,,\n", "a front ends with an open run");
-  if (followed) expect(lft_save_front(lft, trace_path, externals_path, 7, 8) != NULL, "a followed log isn't saved");
+  if (followed) expect(!strcmp(lft_save_front(lft, trace_path, externals_path, 7, 8), "the log is followed: lft_flush writes what is there"), "a followed log isn't saved");
   pthread_mutex_unlock(&lock);
   pthread_join(thread, NULL);
   expect(!(followed ? lft_finish(lft, 7, 8) : lft_save(lft, trace_path, externals_path, 7, 8)), "it goes on");

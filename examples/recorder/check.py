@@ -248,7 +248,17 @@ class Checks(unittest.TestCase):
         while file.bytes.count(b"\n") < 2:
             log.flush()
         self.assertEqual(file.bytes.decode(), front)
-        self.assertTrue(why_of(log.save_front, *self.paths, STOP) and why_of(log.finish, STOP))
+        self.assertEqual(why_of(log.save_front, *self.paths, STOP), "the log is followed: flush writes what is there")
+        self.assertEqual(why_of(log.finish, STOP), "a run is still open: main#1")
+
+    def test_text_file(self):
+        """A file in text mode, held by the log alone."""
+        log = lftrace.Log()
+        log.follow(open(self.paths[0], "w", encoding="utf-8"))
+        record(log)
+        log.finish(STOP)
+        self.assertEqual(split(self.paths[0].read_text()), (WHOLE, EXTERNALS))
+        log._followed.given.close()
 
     def test_refused_memory(self):
         """A log whose rows get no more memory has no table. Of a row that can't be made too."""

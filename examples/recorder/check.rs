@@ -239,7 +239,9 @@ fn front_of_a_hang() {
         hung.flush();
     }
     assert!(file.text().ends_with("delay\nstart,3,2,0,main#1,,,\n"));
-    assert!(hung.save_front(&path, &externals, (7, 8)).is_err() && hung.finish((7, 8)).is_err());
+    let front = hung.save_front(&path, &externals, (7, 8)).unwrap_err();
+    assert_eq!(front.to_string(), "the log is followed: flush writes what is there");
+    assert!(hung.finish((7, 8)).is_err());
     let _ = fs::remove_file(path);
     let _ = fs::remove_file(externals);
 }

@@ -523,6 +523,7 @@ static inline const char *lft_place_tables(lft_writer *writer, bool front, const
 static inline const char *lft_save_rows(lft_log *log, bool front, const char *trace_path, const char *externals_path,
                                         uint64_t stop_time, uint32_t stop_microstep) {
   if (!log) return "there is no log";
+  if (log->writer && front) return "the log is followed: lft_flush writes what is there";
   if (log->writer) return "the log is followed: lft_finish ends it";
   const char *why = lft_fault(log, front);
   if (why) return why;

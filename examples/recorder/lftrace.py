@@ -78,6 +78,7 @@ class Log:
         a trace with the external inputs of another run.
         """
         refuse(self._lacks())
+        refuse(self._followed and "the log is followed: finish ends it")
         self._place_tables(trace, externals, stop)
 
     def save_front(self, trace, externals, stop):
@@ -87,12 +88,13 @@ class Log:
         Any thread may call it, while workers run or hang, and they may go on. Don't take a lock of the runtime to find
         the stop: any later tag will do.
         """
+        refuse(self._followed and "the log is followed: flush writes what is there")
         self._place_tables(trace, externals, stop)
 
     def follow(self, file):
         """The rows go to a file from now on, as one log of both tables, and aren't kept once they are there. It is
         called before the workers begin. Nothing else writes to the file. It isn't closed."""
-        self._followed = Followed(getattr(file, "buffer", file))
+        self._followed = Followed(file)
         self._followed.why = self._followed.write([TRACE_HEADER])
 
     def flush(self):
@@ -150,7 +152,6 @@ class Log:
         return next(is_open, None)
 
     def _place_tables(self, trace, externals, stop):
-        refuse(self._followed and "the log is followed: finish ends it")
         rows = self._rows[:MOST]
         refuse(self._fault)
         parts = [f"{os.fspath(path)}.part" for path in (trace, externals)]
@@ -171,7 +172,8 @@ class Followed:
     """The file of a log that is followed, how many rows it has, and why it gets no more."""
 
     def __init__(self, file):
-        self.file, self.lock, self.written, self.why = file, threading.Lock(), 0, None
+        self.given = file  # a text file closes its buffer where nobody holds it
+        self.file, self.lock, self.written, self.why = getattr(file, "buffer", file), threading.Lock(), 0, None
 
     def write(self, rows):
         """Writes all rows, and gives None, or why it couldn't."""

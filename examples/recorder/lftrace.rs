@@ -129,7 +129,8 @@ impl Log {
 
     fn place_tables(&self, is_front: bool, trace: &Path, externals: &Path, stop: Tag) -> io::Result<()> {
         if self.followed.get().is_some() {
-            return Err(Error::other("the log is followed: finish ends it"));
+            let way = if is_front { "flush writes what is there" } else { "finish ends it" };
+            return Err(Error::other(format!("the log is followed: {way}")));
         }
         let (trace_part, externals_part) = (part(trace), part(externals));
         let saved = self.write_tables(is_front, &trace_part, &externals_part, stop).and_then(|()| {

@@ -4,14 +4,16 @@
 SHOWN is the output of `lftrace show`, and SAID is what `lftrace explain` said of the trace, or the line of
 `lftrace judge`. For a right trace, `time=T microstep=M reaction=X` names a run. Workers are lanes, runs are
 boxes, a colour is a tag, and a column is a row of the table. An arrow leads to the run from one that it was to
-wait for.
+wait for. Of many rows, workers and tags those near what counts are drawn.
 """
+import itertools
 from xml.sax.saxutils import escape
 
 import runs
 
-AROUND = 3  # rows that are drawn before and behind what counts
-LEFT, LANE, BOX = 84, 78, 46
+AROUND, NEAR = 3, 10  # rows that are drawn before and behind what counts; near each place, where not all rows are drawn
+MOST_ROWS, MOST_WORKERS, MOST_TAGS, MOST_BEFORE, MOST_STEPS = 150, 12, 8, 5, 20
+LEFT, LANE, BOX, GAP = 84, 78, 46, 60
 NARROW, WIDE, WIDTH = 5, 52, 790
 COLOURS = "#cfe2f7 #d9efcf #fbe6c2 #e6d9f2 #d3eeee #f6d6e2".split()
 RED, GREEN = "#c00000", "#1a7a2e"
@@ -28,7 +30,8 @@ text { font-family: 'DejaVu Sans', Verdana, sans-serif; font-size: 13px; fill: #
 class Window:
     """Which rows are drawn, which run is marked, and which runs it was to wait for.
 
-    Where no run is marked, `place` is behind the last row up to the tag.
+    `parts` are the first and last rows of what is drawn. Where no run is marked, `place` is behind the last row up to
+    the tag.
     """
 
     def __init__(self, trace, shown, said):
@@ -36,15 +39,32 @@ class Window:
         if self.breach is None:
             raise ValueError(f"no run is named: {said.strip().partition(chr(10))[0]}")
         self.is_right = self.breach.text.startswith("time=")
-        at_tag, last = self.read_tag(trace)
+        at_tag, self.last = self.read_tag(trace)
         self.marked = next(filter(self.breach.names, at_tag), None)
-        self.predecessors = self.find_predecessors(at_tag, runs.preceding(shown, self.breach.reaction))
-        lines = [self.marked.first, self.marked.last] if self.marked else [self.place]
-        lines += [run.last for run in self.predecessors]
-        self.begin, self.end = max(2, min(lines) - AROUND), min(last, max(lines) + AROUND)
-        self.runs = [run for run in runs.read_runs(trace) if run.first <= self.end and run.last >= self.begin]
-        self.workers = sorted({run.worker for run in self.runs})
+        self.predecessors = self.find_predecessors(at_tag, runs.preceding(shown, self.breach.reaction))[-MOST_BEFORE:]
+        self.named = [self.marked, *self.predecessors] if self.marked else []
+        self.parts = parts_around(self.places(), self.last)
+        self.runs = [run for run in runs.read_runs(trace) if self.shows(run.first, run.last)]
+        workers = [run.worker for run in self.named + sorted(self.runs, key=self.distance)]
+        self.workers = sorted([*dict.fromkeys(workers)][:MOST_WORKERS])
+        self.others = len(set(workers)) - len(self.workers)
+        self.runs = [run for run in self.runs if run.worker in self.workers]
         self.tags = sorted({run.tag for run in self.runs})
+
+    def places(self):
+        """The rows that count."""
+        if not self.marked:
+            return [self.place]
+        line = self.breach.line or self.marked.first
+        return [self.marked.first, line, self.marked.last, *(run.last for run in self.predecessors)]
+
+    def shows(self, first, last):
+        """Some of these rows are drawn."""
+        return any(first <= end and last >= begin for begin, end in self.parts)
+
+    def distance(self, run):
+        """How far a run is from what counts."""
+        return min(max(run.first - place, place - run.last, 0) for place in self.places())
 
     def read_tag(self, trace):
         """The runs at the tag and the other one, in order of their first rows, and the last row of the table."""
@@ -72,13 +92,18 @@ class Window:
         """What the picture shows, in words."""
         run, breach = self.marked, self.breach
         if not run:
-            return [f"{breach.reaction} has no run at this tag."] if breach.reaction else []
+            causes = [f"Row {line} is a cause." for line in breach.causes]
+            return [f"{breach.reaction} has no run at this tag.", *causes] if breach.reaction else []
         if self.is_right:
             return [f"{run.reaction} starts in row {run.first}. {it.reaction}, which precedes it, ended in row {it.last}." for it in self.predecessors]
         if breach.other:
             return [self.meets(run, other) for other in self.predecessors]
         if breach.rule == 9:
             return [f"{run.reaction} starts in row {run.first}. {it.reaction}, which precedes it, ends only in row {it.last}." for it in self.predecessors]
+        if breach.rule == 5:
+            return [f"{run.reaction} starts in row {run.first}, and no row ends it."]
+        if breach.rule == 10 and breach.wrong:
+            return [f"{run.reaction} reads {read} of {name}. {present.capitalize()} is present." for name, read, present in breach.wrong]
         if breach.line:
             rows = [row for row in run.rows if row.line == breach.line]
         else:
@@ -93,21 +118,42 @@ class Window:
         return f"{run.reaction} starts at a later tag in row {run.first}. {other.reaction} {ends}."
 
 
+def parts_around(places, last):
+    """The first and last rows of what is drawn: all around the places, or where that is too much the rows near each."""
+    if max(places) - min(places) + 2 * AROUND < MOST_ROWS:
+        return [(max(2, min(places) - AROUND), min(last, max(places) + AROUND))]
+    parts = []
+    for place in sorted(places):
+        begin, end = max(2, place - NEAR), min(last, place + NEAR)
+        if parts and begin <= parts[-1][1] + NEAR:
+            begin, _ = parts.pop()
+        parts.append((begin, end))
+    return parts
+
+
 class Picture:
     """Draws a window."""
 
     def __init__(self, window):
         self.window = window
-        self.cell = max(NARROW, min(WIDE, WIDTH / (window.end - window.begin + 1)))
+        self.gaps = [(before[1] + 1, behind[0]) for before, behind in itertools.pairwise(window.parts)]
+        rows = sum(end + 1 - begin for begin, end in window.parts)
+        self.cell = max(NARROW, min(WIDE, (WIDTH - GAP * len(self.gaps)) / rows))
         self.colour = GREEN if window.is_right else RED
+        self.number_of = {tag: number for number, tag in enumerate(window.tags)}
         self.sentences = window.sentences()[:6]
         self.top = 84 + 20 * len(self.sentences)
-        self.right = self.x(window.end + 1)
+        self.right = self.x(window.parts[-1][1] + 1)
         self.bottom = self.top + len(window.workers) * LANE
 
     def x(self, line):
-        """The left edge of a row's column."""
-        return LEFT + (line - self.window.begin) * self.cell
+        """The left edge of a row's column. Rows that aren't drawn have a place beside those that are."""
+        left = LEFT
+        for begin, end in self.window.parts:
+            if line <= end + 1:
+                return left + max((line - begin) * self.cell, -GAP / 2)
+            left += (end + 1 - begin) * self.cell + GAP
+        return left - GAP / 2
 
     def y(self, run):
         """The upper edge of a run's box."""
@@ -115,14 +161,14 @@ class Picture:
 
     def draw(self):
         window = self.window
-        width, height = max(self.right + 24, 820), self.bottom + 62 + 22 * len(window.tags)
+        width, height = max(self.right + 24, 820), self.bottom + 62 + 22 * min(len(window.tags), MOST_TAGS + 1)
         yield f'<svg xmlns="http://www.w3.org/2000/svg" width="{width:.0f}" height="{height:.0f}" viewBox="0 0 {width:.0f} {height:.0f}">'
         yield f"<style>{STYLE}</style>"
         yield '<rect width="100%" height="100%" fill="#ffffff"/>'
         yield f'<clipPath id="window"><rect x="{LEFT}" y="0" width="{self.right - LEFT:.1f}" height="{height:.0f}"/></clipPath>'
-        yield f'<text class="line" x="16" y="32">{escape(window.breach.text)}</text>'
+        yield f'<text class="line" x="16" y="32">{escape(runs.short(window.breach.text, 2 * runs.LONGEST))}</text>'
         for number, sentence in enumerate(self.sentences):
-            yield f'<text x="16" y="{58 + 20 * number}" style="fill: {self.colour}; font-size: 15px">{escape(sentence)}</text>'
+            yield f'<text x="16" y="{58 + 20 * number}" style="fill: {self.colour}; font-size: 15px">{escape(runs.short(sentence, 2 * runs.LONGEST))}</text>'
         yield from self.draw_lanes()
         yield '<g clip-path="url(#window)">'
         yield from self.draw_wait()
@@ -137,14 +183,19 @@ class Picture:
         yield "</svg>"
 
     def draw_lanes(self):
+        edges = [(self.x(begin), self.x(end + 1)) for begin, end in self.window.parts]
         for number, worker in enumerate(self.window.workers):
             top = self.top + number * LANE
-            yield f'<rect x="{LEFT}" y="{top + 4}" width="{self.right - LEFT:.1f}" height="{LANE - 8}" fill="#f5f5f5"/>'
+            for left, right in edges:
+                yield f'<rect x="{left:.1f}" y="{top + 4}" width="{right - left:.1f}" height="{LANE - 8}" fill="#f5f5f5"/>'
             yield f'<text x="16" y="{top + LANE / 2 + 5}">worker {worker}</text>'
         every = next(step for step in (1, 5, 10, 50, 100, 500, 10**9) if step * self.cell >= 26)
-        for line in range(self.window.begin, self.window.end + 1):
-            if line % every == 0:
-                yield f'<text class="row" x="{self.x(line) + self.cell / 2:.1f}" y="{self.bottom + 16}">{line}</text>'
+        for begin, end in self.window.parts:
+            for line in range(begin, end + 1):
+                if line % every == 0:
+                    yield f'<text class="row" x="{self.x(line) + self.cell / 2:.1f}" y="{self.bottom + 16}">{line}</text>'
+        for begin, end in self.gaps:
+            yield f'<text class="row" x="{(self.x(begin) + self.x(end)) / 2:.1f}" y="{self.bottom + 16}">{end - begin} rows</text>'
 
     def draw_wait(self):
         """The rows in which the run was to wait still, or the place where it lacks."""
@@ -158,7 +209,7 @@ class Picture:
             yield f'<text x="{(begin + end) / 2:.1f}" y="{self.top - 12}" text-anchor="middle" style="fill: {RED}">{escape(window.marked.reaction)} may not start here</text>'
 
     def fill(self, tag):
-        return COLOURS[self.window.tags.index(tag) % len(COLOURS)]
+        return COLOURS[self.number_of[tag] % len(COLOURS)]
 
     def draw_box(self, run):
         left, right, top = self.x(run.first), self.x(run.last + 1), self.y(run)
@@ -167,7 +218,8 @@ class Picture:
             stroke = f'stroke="{self.colour}" stroke-width="4"'
         elif run in self.window.predecessors:
             stroke = f'stroke="{self.colour}" stroke-width="3" stroke-dasharray="7 4"'
-        told = [f"{run.reaction} {runs.tag_text(run.tag)}"] + [f"row {row.line}: {row.text()}" for row in run.rows]
+        told = [f"{run.reaction} {runs.tag_text(run.tag)}"] + [f"row {row.line}: {row.text()}" for row in run.rows[:MOST_STEPS]]
+        told += [f"and {len(run.rows) - MOST_STEPS} more rows"] if len(run.rows) > MOST_STEPS else []
         yield f"<g><title>{escape(chr(10).join(told))}</title>"
         yield f'<rect x="{left + 2:.1f}" y="{top:.1f}" width="{right - left - 4:.1f}" height="{BOX}" rx="5" fill="{self.fill(run.tag)}" {stroke}/></g>'
 
@@ -179,6 +231,8 @@ class Picture:
             name = "\u2026" + name[len(name) - letters + 1 :] if letters > 2 else ""
         yield f'<text class="name" x="{(left + right) / 2:.1f}" y="{top + 19:.1f}" style="stroke: {self.fill(run.tag)}">{escape(name)}</text>'
         for row in run.rows if self.cell >= 40 else []:
+            if not self.window.shows(row.line, row.line):
+                continue
             yield f'<text class="step" x="{self.x(row.line) + self.cell / 2:.1f}" y="{top + 36:.1f}">{escape(row.event)}</text>'
 
     def draw_arrow(self, predecessor):
@@ -201,11 +255,17 @@ class Picture:
         yield f'<path d="M {end:.1f} {below:.1f} l -6 {tip} l 12 0 z" fill="{self.colour}"/>'
 
     def draw_legend(self):
-        yield f'<text x="{LEFT}" y="{self.bottom + 38}">a column is a row of the trace table; the colours are tags:</text>'
-        for number, tag in enumerate(self.window.tags):
+        window = self.window
+        others = f"; {window.others} more workers have rows here" if window.others else ""
+        yield f'<text x="{LEFT}" y="{self.bottom + 38}">a column is a row of the trace table{others}; the colours are tags:</text>'
+        named = {run.tag for run in window.named}
+        tags = sorted(sorted(window.tags, key=lambda tag: tag not in named)[:MOST_TAGS])
+        for number, tag in enumerate(tags):
             y = self.bottom + 50 + 22 * number
             yield f'<rect x="{LEFT}" y="{y}" width="26" height="15" rx="3" fill="{self.fill(tag)}" stroke="#8a8a8a"/>'
             yield f'<text x="{LEFT + 36}" y="{y + 12}">{runs.tag_text(tag)}</text>'
+        if len(window.tags) > len(tags):
+            yield f'<text x="{LEFT}" y="{self.bottom + 62 + 22 * MOST_TAGS}">and {len(window.tags) - len(tags)} more tags</text>'
 
 
 def main(trace, shown, said):

@@ -4,6 +4,8 @@ import dataclasses
 import re
 import sys
 
+csv.field_size_limit(2**31 - 1)
+LONGEST = 60  # letters of a name or a value that are shown
 HEADER = "event,worker,time,microstep,reaction,name,value,delay".split(",")
 LINE = re.compile(
     r"(?:rule=(?P<rule>\d+) (?P<name>\S+) )?(?:line=(?P<line>\d+) )?"
@@ -12,7 +14,20 @@ LINE = re.compile(
 # Facts of `lftrace explain`: a run that starts too early; the first row at a later tag; the start before a second one.
 RACE = re.compile(r"A race \(rule 9\): \S+ starts at \(.*?\) in line (\d+), before ")
 LATER = re.compile(r"Line (\d+) is the first at a later tag, ")
+# Of rule 10 the inputs that were read otherwise, of rule 7 the rows that cause the missing run.
+WRONG = re.compile(r"^  (\S+) +(\S.*?)  +(\S.*)$", re.M)
+CAUSE = re.compile(r"^ *(\d+) \| .*  a cause$", re.M)
 FIRST = re.compile(r"^ *(\d+) \| .*  its first start$", re.M)
+
+
+def number(text):
+    """A number of a table. It may have leading zeros, and Python reads so many digits alone."""
+    return int(text.lstrip("0") or "0")
+
+
+def short(text, longest=LONGEST):
+    """As much of a text as is shown."""
+    return text if len(text) <= longest else text[: longest - 1] + "\u2026"
 
 
 @dataclasses.dataclass(slots=True)
@@ -25,11 +40,11 @@ class Row:
 
     def text(self):
         """The step in words, as `read main.b.speed = 30`."""
-        words = [self.event, self.name] if self.name else [self.event]
+        words = [self.event, short(self.name)] if self.name else [self.event]
         if self.event in ("read", "write", "schedule"):
-            words += ["=", self.value or "bare"]
+            words += ["=", short(self.value) or "bare"]
         if self.delay:
-            words += ["delay", self.delay]
+            words += ["delay", short(self.delay)]
         return " ".join(words)
 
 
@@ -49,7 +64,7 @@ class Run:
         return self.rows[-1].line
 
     def has(self, line):
-        return any(row.line == line for row in self.rows)
+        return line is not None and self.first <= line <= self.last and any(row.line == line for row in self.rows)
 
     @property
     def is_whole(self):
@@ -60,7 +75,8 @@ class Run:
 class Breach:
     """What a line names: a row of the table, or a reaction at a tag; `differ` has no rule.
 
-    `other` is a row of the run that the named one was to wait for, where facts tell it.
+    `other` is a row of the run that the named one was to wait for, where facts tell it. `wrong` are the inputs that were
+    read otherwise: a name, what was read, what is present. `causes` are the rows that make a missing run due.
     """
 
     text: str
@@ -69,6 +85,8 @@ class Breach:
     tag: tuple[int, int]
     reaction: str | None
     other: int | None = None
+    wrong: tuple = ()
+    causes: tuple = ()
 
     def names(self, run):
         if self.line is not None:
@@ -82,9 +100,9 @@ def read_breach(text):
     found = LINE.search(text)
     if not found:
         return None
-    number = {word: int(found[word]) if found[word] else None for word in ("rule", "line", "time", "microstep")}
-    tag = number["time"], number["microstep"]
-    return Breach(text, number["rule"], number["line"], tag, found["reaction"])
+    numbers = {word: number(found[word]) if found[word] else None for word in ("rule", "line", "time", "microstep")}
+    tag = numbers["time"], numbers["microstep"]
+    return Breach(text, numbers["rule"], numbers["line"], tag, found["reaction"])
 
 
 def read_race(text):
@@ -94,6 +112,11 @@ def read_race(text):
     race of rule 9 that stands before it, and of rule 3 the second start of a run.
     """
     breach = read_breach(text)
+    if breach and breach.rule == 10:
+        table = re.search(r"^  input +read +present\n((?:  \S.*\n)*)", text, re.M)
+        breach = dataclasses.replace(breach, wrong=tuple(WRONG.findall(table[1] if table else "")))
+    if breach and breach.rule == 7:
+        breach = dataclasses.replace(breach, causes=tuple(CAUSE.findall(text)))
     race, later, first = RACE.search(text), LATER.search(text), FIRST.search(text)
     if breach and breach.rule in (1, 5) and later:
         line, other = int(later[1]), breach.line
@@ -111,7 +134,7 @@ def at_row(breach, text, line, **changed):
     row = re.search(rf"^ *{line} \| \w+,\d+,(\d+),(\d+),([^,]*),", text, re.M)
     if not row:
         return breach
-    return dataclasses.replace(breach, line=line, tag=(int(row[1]), int(row[2])), reaction=row[3], **changed)
+    return dataclasses.replace(breach, line=line, tag=(number(row[1]), number(row[2])), reaction=row[3], **changed)
 
 
 def tag_text(tag):
@@ -140,18 +163,27 @@ def read_runs(path):
     yield from open_runs.values()
 
 
-def read_rows(path):
-    """Worker, tag, reaction and row of each record; lines count as those of lftrace do."""
+def read_records(path):
+    """The records behind the header. Lines count as those of lftrace do."""
     with open(path, newline="", encoding="utf-8-sig", errors="replace") as table:
         records = filter(None, csv.reader(table))
         if next(records, None) != HEADER:
             raise ValueError(f"{path}: the header is to be {','.join(HEADER)}")
-        for line, record in enumerate(records, 2):
-            try:
-                event, worker, time, microstep, reaction, name, value, delay = record
-                yield int(worker), (int(time), int(microstep)), reaction, Row(line, event, name, value, delay)
-            except ValueError as fault:
-                raise ValueError(f"{path}: record {line} is no row of a trace: {','.join(record)}") from fault
+        yield from records
+
+
+def count_rows(path):
+    return sum(1 for _ in read_records(path))
+
+
+def read_rows(path):
+    """Worker, tag, reaction and row of each record."""
+    for line, record in enumerate(read_records(path), 2):
+        try:
+            event, worker, time, microstep, reaction, name, value, delay = record
+            yield number(worker), (number(time), number(microstep)), reaction, Row(line, event, name, value, delay)
+        except ValueError as fault:
+            raise ValueError(f"{path}: record {line} is no row of a trace: {short(','.join(record))}") from fault
 
 
 def read_shown(path):
