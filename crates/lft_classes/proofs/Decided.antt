@@ -8,8 +8,8 @@ use Rattle.lft_whole.specs.declared.tree.{Instance.Instance, Member.Member}
 use Rattle.lft_classes.specs.declared.{scopes.ReactorNames.ReactorNames, shapes.{Child.Child, Inherited.Inherited, Shape.Shape}}
 use Rattle.lft_classes.specs.inner.{Built.{AreNoted, Core, IsBuilt, core, cores, instance_of}, Chains.extended_reactor, Makings.AreShapes}
 use Rattle.lft_classes.specs.inner.Needs.{AreNeedMarks, HasNeed, IsReadyToDecide, IsReadyAt, PassesOn, HasMember, IsDecided, IsIndexFree, IsMarkedNeeded, IsUnmarkedAt, IsParameter, NeedsName, NeedsNumber, by_instance, by_member}
-use Rattle.lft_classes.specs.Needs.{Gives, NamedFor, Need, Times, Widths}
 use Rattle.lft_classes.specs.inner.{Shapes.{child_at, inside, tables}, Walks.{IsTopologicalOrder, Ways, nothing, one}}
+use Rattle.lft_classes.specs.Needs.{Gives, NamedFor, Need, Times, Widths}
 use Rattle.lft_classes.proofs.{Building.below_one, Goings.noted_child, Needing.{declared, member_of, one_name}}
 use Rattle.lft_whole.specs.declared.tree.Member.TheVariants as member
 use Rattle.lft_classes.specs.declared.shapes.OwnThing.TheVariants as thing

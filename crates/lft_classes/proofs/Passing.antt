@@ -3,8 +3,7 @@ use Rattle.std.proofs.Common.{◌≡◌, ◌↔◌, ◌⊎◌, ◌≤◌, ℕ, z
 use Rattle.std.{specs.Global.Global, proofs.lemmas.Option.slice_get_within}
 use Rattle.lft_lists.proofs.Places.{at_contains, contains_at, get_same, get_there, length_same, same_some}
 use Rattle.lft_whole.specs.declared.tree.{Assignment.Assignment, Expression.Expression, Instance.Instance, Member.Member, Term.Term, Width.Width}
-use Rattle.lft_classes.specs.declared.shapes.{Child.Child, Inherited.Inherited, Shape.Shape}
-use Rattle.lft_classes.specs.Needs.{IsWord, Names, Need, Times, Widths, times_of_member}
+use Rattle.lft_classes.specs.{declared.shapes.{Child.Child, Inherited.Inherited, Shape.Shape}, Needs.{IsWord, Names, Need, Times, Widths, times_of_member}}
 use Rattle.lft_classes.specs.inner.Needs.{AreNeedMarks, HasNeed, IsParameterIn, IsPassed, IsPassedIn, IsTimeIn, Marks, NamesNumber, NamesParameter, PassesOn, IsMarkedNeeded, IsParameter}
 use Rattle.lft_classes.specs.inner.Shapes.{child_at}
 use Rattle.lft_classes.specs.Shapes.{width_of}

@@ -17,7 +17,8 @@ use Rattle.lft_model.proofs.Places.{slice_get_within}
 use Rattle.lft_queue.specs.{Coming.AtTag.AreBefore, inner.Coming.{Coming.AreComing, Lanes.{held, event_given_to, IsTagDone, IsKept, IsLane}}}
 use Rattle.lft_stream.specs.declared.{acceptor.Acceptor.Acceptor, stream.Stream.Stream}
 use Rattle.lft_stream.specs.{inner.{Settled.IsRightRun, Kept.{AreUpToLast, HaveCome, IsLater, IsOfRow, IsStreamOf, IsAcceptorOf}}, Kept.low_of}
-use Rattle.lft_monitor.specs.{Sure.{IsUnbroken, with_inputs, GiveSame}, inner.{Kept.IsPastOfRows, Going.IsGoing, Follows.{IsJudgedOf, IsFollowerOf, done_of, held_of}}}
+use Rattle.lft_monitor.specs.Sure.{IsUnbroken, with_inputs, GiveSame}
+use Rattle.lft_monitor.specs.inner.{Kept.IsPastOfRows, Going.IsGoing, Follows.{IsJudgedOf, IsFollowerOf, done_of, held_of}}
 use Rattle.lft_monitor.specs.declared.{past.Past.Past, gone.Going.Going, judged.Judged.Judged, follower.Follower.Follower}
 use Rattle.lft_monitor.proofs.{Behind.after_least, Later.{later_law, same_alike, at_alike, clash_alike}}
 use Rattle.lft_monitor.proofs.{OtherInputs.{row_other, listens_back, listeners_other, dues_other, right_other, kept_other}, Passed.{reach_up, done_before}}

@@ -9,8 +9,8 @@ use Rattle.lft_model.proofs.Places.{slice_get_take}
 use Rattle.lft_rows.{specs.inner.Passes.HasPassed, proofs.Growing.nearer_law}
 use Rattle.lft_queue.specs.{Coming.AtTag.AreBefore, inner.Coming.Lanes.IsLane}
 use Rattle.lft_stream.specs.{declared.stream.Stream.Stream, inner.{Settled.IsRightRun, Kept.{stopped_stream, IsStreamOf}}, Kept.low_of}
-use Rattle.lft_monitor.specs.{Sure.{IsUnbroken, GiveSame}, inner.{Kept.IsPastOfRows, Going.IsGoing}}
-use Rattle.lft_monitor.specs.inner.Follows.{IsJudgedOf, IsFollowerOf, done_of, held_of, stopped_at, stopped_judged}
+use Rattle.lft_monitor.specs.Sure.{IsUnbroken, GiveSame}
+use Rattle.lft_monitor.specs.inner.{Kept.IsPastOfRows, Going.IsGoing, Follows.{IsJudgedOf, IsFollowerOf, done_of, held_of, stopped_at, stopped_judged}}
 use Rattle.lft_monitor.specs.declared.{past.Past.Past, gone.Going.Going, judged.Judged.Judged, follower.Follower.Follower}
 use Rattle.lft_monitor.proofs.{Same.SameAt, Later.{later_law, same_alike, same_time, same_stop, turned_stop, at_alike, clash_alike}}
 use Rattle.lft_monitor.proofs.Passed.{reach_up, hand_up, done_before}

@@ -7,7 +7,7 @@ use Rattle.lft_lists.proofs.Places.{Some_same}
 use Rattle.lft_tree.specs.{Tree.ReactorTree, View.tree_view, declared.ast.Ast.Ast}
 use Rattle.lft_whole.specs.declared.sources.source.SourceFile.{SourceFile}
 use Rattle.lft_lower.specs.inner.Reactors.{IsLowering}
-use Rattle.lft_same.specs.inner.{Expanded.Core.{core_contents, expanded_tree}}
+use Rattle.lft_same.specs.inner.Expanded.Core.{core_contents, expanded_tree}
 use Rattle.lft_same.specs.Expanded.{Expanded.Contents, Instances.{Inside, Widths, entered_instance, main_class_instance}, Reactors.{Class, main_of}}
 use Rattle.lft_same.specs.Expanded.{Same.{IsNever, IsSame, awake}, Whole.{AreWidths, expanded_files, whole_contents}}
 use Rattle.lft_same.proofs.{Instances.{AreWidthsFound, StandsFor}, Connections.links_alike, Declared.{actions_alike, awake_actions, ports_alike, timers_alike}}

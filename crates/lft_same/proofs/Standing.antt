@@ -12,9 +12,10 @@ use Rattle.lft_elaborate.specs.inner.{Meanings.shape_inside, Values.{Valued, mai
 use Rattle.lft_lower.specs.inner.Reactors.{AreShapesOfFiles, IsLowering}
 use Rattle.lft_same.specs.Expanded.{Instances.{Inner, Inside, Widths, entered_instance, inners, inside_of, main_class_instance}, Reactors.{Class, main_of}}
 use Rattle.lft_same.specs.inner.{Fits.Fits.Fits, Times.IsKnown}
-use Rattle.lft_same.proofs.{FitsLemmas.{Giving.find_some, Nested.main_law, Ports.shape_is_inside}, Instances.{AreWidthsFound, StandsFor}, Found.shape_of_setting}
-use Rattle.lft_same.proofs.{Inners.{IsInner, instances_alike}, Known.{given_time, known_law}, Members.here, Paths.{Both, both_at, neither}}
-use Rattle.lft_same.proofs.{Reactors.{has_reactor, main_found, reactor_found}, Settings.nested, Times.{inside_times, inside_values, main_times, main_values}}
+use Rattle.lft_same.proofs.{FitsLemmas.{Giving.find_some, Nested.main_law, Ports.shape_is_inside}, Instances.{AreWidthsFound, StandsFor}}
+use Rattle.lft_same.proofs.{Found.shape_of_setting, Inners.{IsInner, instances_alike}, Known.{given_time, known_law}, Members.here}
+use Rattle.lft_same.proofs.{Paths.{Both, both_at, neither}, Reactors.{has_reactor, main_found, reactor_found}, Settings.nested}
+use Rattle.lft_same.proofs.Times.{inside_times, inside_values, main_times, main_values}
 
 -- the law of the main setting, of the shapes of a program
 main_fits_at : (files : List SourceFile) (shapes : List Shape) → AreShapesOfFiles files shapes → (t : Valued) → main_setting shapes ≡ Some t → (c : Class) × (main_of files ≡ Some c) × Fits files shapes t (main_class_instance files c)

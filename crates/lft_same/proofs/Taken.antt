@@ -1,36 +1,46 @@
 -- A lowered program that isn't refused is the whole program, and is taken.
 use Rattle.std.proofs.Common.{◌≡◌, ◌≢◌, ℕ, zero, suc, ◌+◌, length, All, inl, inr, Bool, true, false, List, [], ◌∷◌, map, flat_map, filter_map, Option, Some, None, Contains, IfSome, IsSomeAnd, option_map, option_to_list, slice_get, arith, refl, sym, ap, subst, ◌∙◌}
 use Rattle.std.specs.Prelude.{◌&&◌, find, is_some, not, slice_index_or, string_bytes, unwrap_or}
-use Rattle.std.specs.{List.position, Option.option_and_then}
-use Rattle.std.proofs.lemmas.{List.Elements.All-weaker, Slice.Eq.bytes_eq-Decides}
-use Rattle.lft_lists.proofs.{Mapped.{mapped, mapped_from, option_map_some}, Members.{Mem, mem_contains, mem_filter, mem_get, mem_left, mem_right}, Places.{Some_same, same_some}}
+use Rattle.std.{specs.{List.position, Option.option_and_then}, proofs.lemmas.{List.Elements.All-weaker, Slice.Eq.bytes_eq-Decides}}
+use Rattle.lft_lists.proofs.{Mapped.{mapped, mapped_from, option_map_some}, Members.{Mem, mem_contains, mem_filter, mem_get, mem_left, mem_right}}
+use Rattle.lft_lists.proofs.Places.{Some_same, same_some}
 use Rattle.lft_program.proofs.Zipping.{then_some}
-use Rattle.lft_tree.specs.{Tree.{ActionMember, ConnectionMember, ConnectionTree, MemberTree, TimeTree, TimerMember, TriggerTree, action_in, actions_of, connection_in, connections_of, timer_in, timers_of}, View.tree_view, declared.ast.Ast.Ast}
-use Rattle.lft_resolve.specs.{Causes.{NoneHolds, causes}, Expansion.Paths.along, Instances.{Inside as CoreInside, entered as core_entered, main_instance as core_main}}
-use Rattle.lft_resolve.specs.Kinds.{timer_times, times_in}
+use Rattle.lft_tree.specs.Tree.{ActionMember, ConnectionMember, ConnectionTree, MemberTree, TimeTree, TimerMember, TriggerTree, action_in, actions_of, connection_in, connections_of, timer_in, timers_of}
+use Rattle.lft_tree.specs.{View.tree_view, declared.ast.Ast.Ast}
+use Rattle.lft_resolve.specs.{Causes.{NoneHolds, causes}, Expansion.Paths.along}
+use Rattle.lft_resolve.specs.{Instances.{Inside as CoreInside, entered as core_entered, main_instance as core_main}, Kinds.{timer_times, times_in}}
 use Rattle.lft_whole.specs.declared.sources.source.SourceFile.{SourceFile}
-use Rattle.lft_whole.specs.declared.tree.{Action.Action, Connection.Connection, Effect.Effect, Expression.Expression, Instance.Instance, Member.Member, Name.Name, Parameter.Parameter, Reaction.Reaction, Reactor.Reactor, Reference.Reference, Trigger.Trigger, WrittenValue.WrittenValue}
-use Rattle.lft_classes.specs.{Shapes.{name_of, width_of}, declared.{scopes.Class.Class as ScopesClass, shapes.{Child.Child, Inherited.Inherited, InheritedParameter.InheritedParameter, Shape.Shape}}, inner.{Built.{Core, core}, Scopes.{IsExported, reactors_before, reactors_in}, Shapes.thing_named}}
+use Rattle.lft_whole.specs.declared.tree.{Action.Action, Connection.Connection, Effect.Effect, Expression.Expression, Instance.Instance, Member.Member}
+use Rattle.lft_whole.specs.declared.tree.{Name.Name, Parameter.Parameter, Reaction.Reaction, Reactor.Reactor, Reference.Reference, Trigger.Trigger}
+use Rattle.lft_whole.specs.declared.tree.WrittenValue.{WrittenValue}
+use Rattle.lft_classes.specs.Shapes.{name_of, width_of}
+use Rattle.lft_classes.specs.declared.scopes.Class.{Class as ScopesClass}
+use Rattle.lft_classes.specs.declared.shapes.{Child.Child, Inherited.Inherited, InheritedParameter.InheritedParameter, Shape.Shape}
 use Rattle.lft_classes.specs.declared.shapes.OwnThing.{OwnThing as ShapeThing}
-use Rattle.lft_elaborate.specs.Channels.Channels.{below}
-use Rattle.lft_elaborate.specs.inner.{Meanings.meaning_named, Noted.found_inside, Settings.{setting_in, shape_at, valued}, Values.{Valued, inside, main_setting, main_values}, Widths.found_width}
-use Rattle.lft_elaborate.specs.{inner.Channels.Lowered.AreJoinedPlaces, declared.settings.Setting.Setting}
-use Rattle.lft_elaborate.specs.declared.meanings.Meaning.{Meaning}
-use Rattle.lft_classes.specs.inner.{Shapes.{inside as noted_inside, tables}, Walks.{Has, IsReachable}}
+use Rattle.lft_classes.specs.inner.{Built.{Core, core}, Scopes.{IsExported, reactors_before, reactors_in}, Shapes.{thing_named, inside as noted_inside, tables}}
+use Rattle.lft_classes.specs.inner.Walks.{Has, IsReachable}
 use Rattle.lft_classes.proofs.{Needing.listed_all, Numbering.at_file}
-use Rattle.lft_elaborate.specs.inner.Used.{IsReached}
+use Rattle.lft_elaborate.specs.Channels.Channels.{below}
+use Rattle.lft_elaborate.specs.inner.{Meanings.meaning_named, Noted.found_inside, Settings.{setting_in, shape_at, valued}}
+use Rattle.lft_elaborate.specs.inner.{Values.{Valued, inside, main_setting, main_values}, Widths.found_width, Channels.Lowered.AreJoinedPlaces, Used.IsReached}
+use Rattle.lft_elaborate.specs.declared.{settings.Setting.Setting, meanings.Meaning.Meaning}
 use Rattle.lft_elaborate.proofs.Keeping.{found_is_inside}
 use Rattle.lft_lower.specs.inner.Meanings.Meanings.{Here, Means, all_places}
-use Rattle.lft_lower.specs.inner.{Lowered.{AreConnected, AreInstances, AreTriggers, IsLowered, IsRead, MeanSides, MeansEffect, MeansTrigger, action_tree, each_pair, is_some_time, no_instances, period_at, runs, sleeps, some_instances, time_at, timer_tree, trigger_places, whole}, Programs.decentralized_in, Reactors.{AreShapesOfFiles, IsLowering}}
-use Rattle.lft_same.specs.Expanded.{Expanded.Expanded, Instances.{Inside, Widths, entered_instance, inside_of, main_class_instance, numbers, place_named}, Reactors.{Class, is_named, main_of, members_of, own_class, parameters_of, reactor_of}}
-use Rattle.lft_same.specs.Expanded.{Same.IsSame, Whole.{AreWidths, LeadsToInstance, inside_named, links_of}}
+use Rattle.lft_lower.specs.inner.Lowered.{AreConnected, AreInstances, AreTriggers, IsLowered, IsRead, MeanSides, MeansEffect, MeansTrigger, action_tree, each_pair, is_some_time, no_instances, period_at, runs, sleeps, some_instances, time_at, timer_tree, trigger_places, whole}
+use Rattle.lft_lower.specs.inner.{Programs.decentralized_in, Reactors.{AreShapesOfFiles, IsLowering}}
+use Rattle.lft_same.specs.Expanded.{Expanded.Expanded, Instances.{Inside, Widths, entered_instance, inside_of, main_class_instance, numbers, place_named}}
+use Rattle.lft_same.specs.Expanded.{Reactors.{Class, is_named, main_of, members_of, own_class, parameters_of, reactor_of}, Same.IsSame}
+use Rattle.lft_same.specs.Expanded.Whole.{AreWidths, LeadsToInstance, inside_named, links_of}
 use Rattle.lft_same.specs.Expanded.Taken.{AreGivenTo, HasImports, HasNamesApart, HasOneMain, HasParameter, HasTimes, IsCentral, IsEffect, IsIndexFree, IsMember, IsNamed, IsNoSpacing, IsReaction, IsTaken, IsTakenInside, IsThere, IsTrigger, IsZero}
 use Rattle.lft_same.specs.inner.{Expanded.Core.{core_links, expanded_tree}, Fits.Fits.{Fits, IsShapeOf}, Times.IsKnown}
-use Rattle.lft_same.proofs.FitsLemmas.{Banks.{index_law, reached_shape}, ClassNames.own_found, Fitting.parameter_is, Giving.{find_none, unique}, MemberNames.member_found, Nested.{in_first, main_is}, Ports.{IsPort, port_is}}
-use Rattle.lft_same.proofs.{Connections.connection_links, Known.{action_time, delay_time, known_law, listed, timer_time}, Times.{IsInsideGiven, inside_given, made_of, period_is_in, time_is_in}, Found.shape_of_setting}
+use Rattle.lft_same.proofs.FitsLemmas.{Banks.{index_law, reached_shape}, ClassNames.own_found, Fitting.parameter_is, Giving.{find_none, unique}}
+use Rattle.lft_same.proofs.FitsLemmas.{MemberNames.member_found, Nested.{in_first, main_is}, Ports.{IsPort, port_is}}
+use Rattle.lft_same.proofs.{Connections.connection_links, Known.{action_time, delay_time, known_law, listed, timer_time}}
+use Rattle.lft_same.proofs.{Times.{IsInsideGiven, inside_given, made_of, period_is_in, time_is_in}, Found.shape_of_setting}
 use Rattle.lft_same.proofs.{Instances.{AreWidthsFound, StandsFor}, Lowered.{Becomes, made_at}, Members.{here, of_class}, Paths.{Both, both, neither}}
-use Rattle.lft_same.proofs.{References.{inside_is, its_instance, u as setting_inside, y as instance_inside}, Settings.{its_setting, member_of, nested, numbers_are, shape_there}}
-use Rattle.lft_same.proofs.{Same.{at_path, is_same, main as main_reactor, stands}, Widths.{depth, has_widths, in_steps}}
+use Rattle.lft_same.proofs.References.{inside_is, its_instance, u as setting_inside, y as instance_inside}
+use Rattle.lft_same.proofs.{Settings.{its_setting, member_of, nested, numbers_are, shape_there}, Same.{at_path, is_same, main as main_reactor, stands}}
+use Rattle.lft_same.proofs.Widths.{depth, has_widths, in_steps}
 use Rattle.lft_elaborate.specs.declared.meanings.Meaning.TheVariants as meaning
 use Rattle.lft_whole.specs.declared.tree.Effect.TheVariants as effect
 use Rattle.lft_whole.specs.declared.tree.Member.TheVariants as member

@@ -13,17 +13,18 @@ use Rattle.lft_whole.specs.declared.tree.{Assignment.Assignment, Expression.Expr
 use Rattle.lft_classes.specs.declared.shapes.{Child.Child, GivenValue.GivenValue, InheritedParameter.InheritedParameter, Shape.Shape}
 use Rattle.lft_classes.specs.inner.{Built.AreGiven, Circles.GivesOnce, Shapes.{child_at, thing_named}}
 use Rattle.lft_classes.proofs.Rows.{map_alike}
-use Rattle.lft_elaborate.specs.{inner.{Meanings.shape_inside, Values.{Valued, given_to, inside, main_setting, main_values as main_values_of}}, Values.is_forever}
-use Rattle.lft_elaborate.specs.Channels.Channels.{below}
+use Rattle.lft_elaborate.specs.inner.{Meanings.shape_inside, Values.{Valued, given_to, inside, main_setting, main_values as main_values_of}}
+use Rattle.lft_elaborate.specs.{Values.is_forever, Channels.Channels.below}
 use Rattle.lft_lower.specs.inner.Meanings.Meanings.{Here}
-use Rattle.lft_lower.specs.inner.{Lowered.{AreTimesGiven, IsGiven, IsPeriod, IsRead, assigned, given_times, period_at, time_at, time_given}, Needed.{GivesEachOnce, GivesNeeded, is_bare, is_needed, is_timed}}
+use Rattle.lft_lower.specs.inner.Lowered.{AreTimesGiven, IsGiven, IsPeriod, IsRead, assigned, given_times, period_at, time_at, time_given}
+use Rattle.lft_lower.specs.inner.Needed.{GivesEachOnce, GivesNeeded, is_bare, is_needed, is_timed}
 use Rattle.lft_lower.specs.inner.Reactors.{AreShapesOfFiles, HasDefault, IsDefault, default_time, parameter_tree, timed_parameter, timed_parameters}
 use Rattle.lft_lower.specs.inner.Times.{IsTime, IsWrittenTime, time_for, time_of_value}
 use Rattle.lft_same.specs.Expanded.Instances.{Inside, default_of, value_given_in, value_or_default, inside_of, main_class_instance, period_in, read_in, time_of, value_named, time_written_in as whole_time_in}
-use Rattle.lft_same.specs.Expanded.Reactors.{Class, class_named, is_named, main_of, members_of, parameters_of}
+use Rattle.lft_same.specs.Expanded.{Reactors.{Class, class_named, is_named, main_of, members_of, parameters_of}, Taken.{IsPeriodIn, IsTimeIn, IsTimeValue}}
 use Rattle.lft_same.specs.inner.{Fits.Fits.{Fits, IsShapeOf}, Times.{HasParameterTimes, HaveTimeValues, IsKnown, time_named}}
-use Rattle.lft_same.specs.Expanded.Taken.{IsPeriodIn, IsTimeIn, IsTimeValue}
-use Rattle.lft_same.proofs.FitsLemmas.{Fitting.parameter_is, Giving.{IsGivenBy, find_some, to_some}, Once.given_once, MemberNames.value_found, Nested.{given_law, main_law}}
+use Rattle.lft_same.proofs.FitsLemmas.{Fitting.parameter_is, Giving.{IsGivenBy, find_some, to_some}, Once.given_once, MemberNames.value_found}
+use Rattle.lft_same.proofs.FitsLemmas.Nested.{given_law, main_law}
 use Rattle.lft_whole.specs.declared.tree.Member.TheVariants as member
 use Rattle.lft_whole.specs.declared.tree.WrittenValue.TheVariants as value
 use Rattle.lft_classes.specs.declared.shapes.OwnThing.TheVariants as thing

@@ -1,22 +1,17 @@
 -- A lowered program that isn't refused has widths, and they are those that lowering found.
 use Rattle.std.proofs.Common.{◌≡◌, ℕ, zero, suc, ◌<◌, ◌≤◌, max, ◌⊎◌, inl, inr, List, length, Option, Some, None, slice_get, refl, sym, ap, subst, ◌∙◌, arith, eq-or-lt_of_le}
 use Rattle.std.proofs.{lemmas.Option.slice_get_within, Math.Nat.{le-max_left, le-max_right}}
-use Rattle.lft_lists.proofs.Places.{Some_same, get_there, same_at, same_some}
+use Rattle.lft_lists.proofs.{Places.{Some_same, get_there, same_at, same_some}, Mapped.mapped_from}
 use Rattle.lft_tree.specs.{View.tree_view, declared.ast.Ast.Ast}
 use Rattle.lft_resolve.specs.Causes.{NoneHolds, causes}
-use Rattle.lft_whole.specs.declared.sources.source.SourceFile.{SourceFile}
-use Rattle.lft_classes.specs.declared.shapes.Shape.{Shape}
-use Rattle.lft_elaborate.specs.inner.{Places.width_in, Settings.setting_at, Used.IsReached, Values.{Valued, main_setting}, Widths.found_width}
+use Rattle.lft_whole.specs.declared.{sources.source.SourceFile.SourceFile, tree.{Member.Member, Width.Width}}
+use Rattle.lft_classes.specs.{declared.shapes.{Shape.Shape, Inherited.Inherited}, Shapes.width_of}
+use Rattle.lft_elaborate.specs.inner.{Places.{width_in, written_width}, Settings.setting_at, Used.IsReached, Values.{Valued, main_setting}, Widths.found_width}
 use Rattle.lft_lower.specs.inner.Reactors.{AreShapesOfFiles, IsLowering}
-use Rattle.lft_same.specs.{Expanded.{Instances.Widths, Whole.AreWidths}, inner.Fits.Widths.{AreFound, AreThose, small}}
-use Rattle.lft_same.proofs.{FitsLemmas.Found.widths_law, Instances.AreWidthsFound}
-use Rattle.lft_lists.proofs.Mapped.{mapped_from}
-use Rattle.lft_whole.specs.declared.tree.{Member.Member, Width.Width}
-use Rattle.lft_classes.specs.{declared.shapes.Inherited.Inherited, Shapes.width_of}
-use Rattle.lft_elaborate.specs.inner.Places.{written_width}
-use Rattle.lft_same.specs.Expanded.{Instances.Inside, Reactors.members_of, Taken.widths_from}
-use Rattle.lft_same.proofs.{FitsLemmas.Widths.{width_is, width_is_written}, Settings.{HasSetting, nested, reached}}
-use Rattle.lft_same.proofs.Reached.{HasInstance, found_at, found_small, found_written, reached_instance}
+use Rattle.lft_same.specs.Expanded.{Instances.{Widths, Inside}, Whole.AreWidths, Reactors.members_of, Taken.widths_from}
+use Rattle.lft_same.specs.inner.Fits.Widths.{AreFound, AreThose, small}
+use Rattle.lft_same.proofs.{FitsLemmas.{Found.widths_law, Widths.{width_is, width_is_written}}, Instances.AreWidthsFound}
+use Rattle.lft_same.proofs.{Settings.{HasSetting, nested, reached}, Reached.{HasInstance, found_at, found_small, found_written, reached_instance}}
 
 -- what holds of each at some depth, and at each greater one, holds of all at one depth
 most : (n : ℕ) (P : ℕ → ℕ → Type 0) → ((i d e : ℕ) → d ≤ e → P i d → P i e) → ((i : ℕ) → i < n → (d : ℕ) × P i d) → (d : ℕ) × ((i : ℕ) → i < n → P i d)

@@ -1,17 +1,18 @@
 -- What a reactor needs it needs in its shape, and no bank needs the number of each of its instances.
 use Rattle.std.proofs.Common.{◌≡◌, ℕ, true, List, map, Option, Some, None, codes, option_map, slice_get, refl, sym, ap, subst, ◌∙◌}
 use Rattle.std.specs.Prelude.{find, is_some, string_bytes}
-use Rattle.std.specs.Option.{option_and_then}
-use Rattle.std.proofs.lemmas.Slice.Eq.{bytes_eq-Decides}
+use Rattle.std.{specs.Option.option_and_then, proofs.lemmas.Slice.Eq.bytes_eq-Decides}
 use Rattle.lft_lists.proofs.{Mapped.{mapped, mapped_from, option_map_some}, Members.get_mem, Places.Some_same}
 use Rattle.lft_program.proofs.Zipping.{then_some}
 use Rattle.lft_whole.specs.declared.{sources.source.SourceFile.SourceFile, tree.{Instance.Instance, Member.Member, Parameter.Parameter}}
 use Rattle.lft_classes.specs.Needs.{Gives, NamedFor, Need}
 use Rattle.lft_classes.specs.declared.{nesting.Nesting.Nesting, shapes.{Child.Child, Inherited.Inherited, InheritedParameter.InheritedParameter, Shape.Shape}}
-use Rattle.lft_classes.specs.inner.{Built.{Core, IsChildInstance, core, cores, instance_of, located_parameters}, Needs.{HasMember, IsBankOf, NeedsName, by_instance as name_by_instance, by_member as name_by_member}, Nestings.IsNesting}
+use Rattle.lft_classes.specs.inner.Built.{Core, IsChildInstance, core, cores, instance_of, located_parameters}
+use Rattle.lft_classes.specs.inner.{Needs.{HasMember, IsBankOf, NeedsName, by_instance as name_by_instance, by_member as name_by_member}, Nestings.IsNesting}
 use Rattle.lft_classes.specs.inner.{Shapes.{child_at, child_in, inside as noted_inside, tables, thing_named}, Walks.{Has, IsReachable, further, itself}}
 use Rattle.lft_classes.proofs.Needing.{declared, listed_all}
-use Rattle.lft_elaborate.specs.inner.{Used.{IsReached, main as reached_main, within}, Values.{Valued, inside, main_setting, main_values, setting_of, values_inside}}
+use Rattle.lft_elaborate.specs.inner.Used.{IsReached, main as reached_main, within}
+use Rattle.lft_elaborate.specs.inner.Values.{Valued, inside, main_setting, main_values, setting_of, values_inside}
 use Rattle.lft_same.specs.Expanded.{Instances.{Inside, inside_of, value_given_in}, Reactors.{Class, class_named, is_named, members_of, parameters_of}}
 use Rattle.lft_same.specs.Expanded.Taken.{HasParameter, IsIndexFree, Needs, by_instance, by_member}
 use Rattle.lft_same.specs.inner.Fits.Fits.{IsShapeOf, number_at}

@@ -2,15 +2,13 @@
 use Rattle.std.proofs.Common.{◌≡◌, ◌≢◌, ℕ, zero, suc, eqb, ◌+◌, ◌⊎◌, inl, inr, Bool, true, false, List, [], ◌∷◌, ◌++◌, length, Option, Some, None, slice_get, refl, sym, ap, subst, ◌∙◌, arith}
 use Rattle.std.specs.Prelude.{if◌then◌else◌, string_bytes}
 use Rattle.std.proofs.lemmas.{Bool.Decides.eqb_tells, List.length-append}
-use Rattle.lft_lists.proofs.Members.{Mem, contains_mem, get_mem, mem_cases, mem_contains, mem_get, mem_left, mem_right}
-use Rattle.lft_lists.proofs.Places.{Some_same}
+use Rattle.lft_lists.proofs.{Members.{Mem, contains_mem, get_mem, mem_cases, mem_contains, mem_get, mem_left, mem_right}, Places.Some_same}
 use Rattle.lft_whole.specs.declared.tree.{Assignment.Assignment, Instance.Instance, WrittenValue.WrittenValue}
 use Rattle.lft_classes.specs.declared.shapes.{Child.Child, GivenValue.GivenValue, InheritedParameter.InheritedParameter, Shape.Shape, OwnThing.OwnThing}
 use Rattle.lft_classes.specs.inner.{Built.AreGiven, Circles.GivesOnce, Shapes.thing_named}
 use Rattle.lft_elaborate.specs.inner.Values.{given_to}
 use Rattle.lft_lower.specs.inner.Needed.{GivesEachOnce}
-use Rattle.lft_same.specs.inner.Fits.Fits.{IsShapeOf}
-use Rattle.lft_same.proofs.FitsLemmas.Giving.{to_none, unique}
+use Rattle.lft_same.{specs.inner.Fits.Fits.IsShapeOf, proofs.FitsLemmas.Giving.{to_none, unique}}
 use Rattle.lft_classes.specs.declared.shapes.OwnThing.TheVariants as thing
 
 -- nothing is given to the parameter

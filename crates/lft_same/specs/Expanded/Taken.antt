@@ -6,10 +6,12 @@ use Rattle.lft_tree.specs.Tree.{nanoseconds}
 use Rattle.lft_elaborate.specs.Values.{is_forever}
 use Rattle.lft_classes.specs.{Needs.{Gives, NamedFor, Need}, Shapes.{name_of, width_of}}
 use Rattle.lft_whole.specs.declared.sources.source.SourceFile.{SourceFile}
-use Rattle.lft_whole.specs.declared.tree.{Assignment.Assignment, Effect.Effect, Expression.Expression, Import.Import, ImportedName.ImportedName, Instance.Instance, Member.Member, Reaction.Reaction, Reactor.Reactor, Reference.Reference}
-use Rattle.lft_whole.specs.declared.tree.{Trigger.Trigger, Width.Width, WrittenValue.WrittenValue}
+use Rattle.lft_whole.specs.declared.tree.{Assignment.Assignment, Effect.Effect, Expression.Expression, Import.Import, ImportedName.ImportedName}
+use Rattle.lft_whole.specs.declared.tree.{Instance.Instance, Member.Member, Reaction.Reaction, Reactor.Reactor, Reference.Reference, Trigger.Trigger}
+use Rattle.lft_whole.specs.declared.tree.{Width.Width, WrittenValue.WrittenValue}
 use Rattle.lft_same.specs.Expanded.Instances.{Inside, Widths, inside_of, numbers, place_named, read_in}
-use Rattle.lft_same.specs.Expanded.{Reactors.{Class, class_named, is_named, main_of, members_of, own_class, parameters_of, reactor_of}, Whole.{LeadsToInstance, inside_named, links_of, term_of_width, total_width}}
+use Rattle.lft_same.specs.Expanded.Reactors.{Class, class_named, is_named, main_of, members_of, own_class, parameters_of, reactor_of}
+use Rattle.lft_same.specs.Expanded.Whole.{LeadsToInstance, inside_named, links_of, term_of_width, total_width}
 use Rattle.lft_whole.specs.declared.tree.Effect.TheVariants as effect
 use Rattle.lft_whole.specs.declared.tree.Member.TheVariants as member
 use Rattle.lft_whole.specs.declared.tree.Trigger.TheVariants as trigger

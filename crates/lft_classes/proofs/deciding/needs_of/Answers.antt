@@ -1,7 +1,7 @@
 use Rattle.std.proofs.Common.{◌<◌, length, refl, arith}
 use Rattle.std.proofs.lemmas.Option.{slice_get_read, slice_get_within}
-use Rattle.lft_classes.{specs.{declared.shapes.Inherited.Inherited, inner.Needs.{HasNeed, IsUnmarkedAt}}, proofs.{Building.below_one, Marking.below_more, Passing.marked_all}}
-use Rattle.lft_classes.specs.Needs.{Times, Widths}
+use Rattle.lft_classes.specs.{declared.shapes.Inherited.Inherited, inner.Needs.{HasNeed, IsUnmarkedAt}, Needs.{Times, Widths}}
+use Rattle.lft_classes.proofs.{Building.below_one, Marking.below_more, Passing.marked_all}
 use Rattle.lft_classes.proofs.deciding.needs_of.Goals as goal
 
 pub loop-number-preserved : goal.loop-number-preserved

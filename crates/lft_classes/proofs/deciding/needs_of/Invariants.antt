@@ -1,6 +1,5 @@
 use Rattle.std.proofs.Common.{◌≡◌, ◌<◌, ℕ, Some, slice_get}
-use Rattle.lft_classes.{specs.{inner.Needs.{HasNeed, IsUnmarkedAt, Marks}, declared.shapes.Inherited.Inherited}, proofs.Marking.AnyBelow}
-use Rattle.lft_classes.specs.Needs.{Times, Widths}
+use Rattle.lft_classes.{specs.{inner.Needs.{HasNeed, IsUnmarkedAt, Marks}, declared.shapes.Inherited.Inherited, Needs.{Times, Widths}}, proofs.Marking.AnyBelow}
 use Rattle.lft_classes.proofs.deciding.needs_of.Given as goal
 
 abbrev pub invariant-loop-number : goal.invariant-loop-number

@@ -1,6 +1,5 @@
 use Rattle.std.proofs.Common.{[], ◌∷◌, sym, ap, ◌∙◌}
-use Rattle.lft_classes.specs.{inner.Needs.{HasNeed, IsTimeIn, NamesParameter}, Shapes.width_of}
-use Rattle.lft_classes.specs.Needs.{Times, Widths, times_of_member}
+use Rattle.lft_classes.specs.{inner.Needs.{HasNeed, IsTimeIn, NamesParameter}, Shapes.width_of, Needs.{Times, Widths, times_of_member}}
 use Rattle.lft_classes.proofs.{Marking.{marks_as, marks_on}, Passing.{among_two, time_needed, width_needed}}
 use Rattle.lft_classes.proofs.deciding.Needs.note.Goals as goal
 

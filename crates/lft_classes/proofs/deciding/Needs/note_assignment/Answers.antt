@@ -1,7 +1,7 @@
 use Rattle.std.proofs.Common.{ℕ, string_bytes, subst}
 use Rattle.lft_lists.proofs.Options.{lacking}
-use Rattle.lft_classes.{specs.inner.Needs.{IsParameter, IsParameterIn, IsPassed}, proofs.{Marking.{marks_as, marks_none}, Passing.passed_one}}
-use Rattle.lft_classes.specs.Needs.{Times, Widths}
+use Rattle.lft_classes.specs.{inner.Needs.{IsParameter, IsParameterIn, IsPassed}, Needs.{Times, Widths}}
+use Rattle.lft_classes.proofs.{Marking.{marks_as, marks_none}, Passing.passed_one}
 use Rattle.lft_classes.proofs.deciding.Needs.note_assignment.Goals as goal
 
 pub returns-in_default-named-clause-sized : goal.returns-in_default-named-clause-sized

@@ -1,8 +1,7 @@
 use Rattle.std.proofs.Common.{◌≡◌, ◌<◌, Some, length, slice_get, refl, arith}
 use Rattle.std.proofs.lemmas.Option.{slice_get_read}
 use Rattle.lft_whole.specs.declared.tree.Assignment.{Assignment}
-use Rattle.lft_classes.{specs.inner.Needs.{IsPassed, IsPassedIn}, proofs.Marking.{below_all, below_more}}
-use Rattle.lft_classes.specs.Needs.{Times, Widths}
+use Rattle.lft_classes.{specs.{inner.Needs.{IsPassed, IsPassedIn}, Needs.{Times, Widths}}, proofs.Marking.{below_all, below_more}}
 use Rattle.lft_classes.proofs.deciding.Needs.note_given.Goals as goal
 
 pub loop-assignment-preserved : goal.loop-assignment-preserved

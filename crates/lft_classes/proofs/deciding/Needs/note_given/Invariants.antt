@@ -1,5 +1,4 @@
-use Rattle.lft_classes.{specs.inner.Needs.{IsPassed, Marks}, proofs.Marking.AnyBelow}
-use Rattle.lft_classes.specs.Needs.{Times, Widths}
+use Rattle.lft_classes.{specs.{inner.Needs.{IsPassed, Marks}, Needs.{Times, Widths}}, proofs.Marking.AnyBelow}
 use Rattle.lft_classes.proofs.deciding.Needs.note_given.Given as goal
 
 abbrev pub invariant-loop-assignment : goal.invariant-loop-assignment

@@ -2,8 +2,7 @@ use Rattle.std.proofs.Common.{◌≡◌, Some, None, option_map, option_copied, 
 use Rattle.lft_lists.proofs.Places.{Some_same}
 use Rattle.lft_resolve.proofs.Placing.{lent}
 use Rattle.lft_whole.specs.declared.tree.Instance.{Instance}
-use Rattle.lft_classes.specs.declared.shapes.Child.{Child}
-use Rattle.lft_classes.specs.inner.{Needs.{HasNeed, HasNoMarkedIndex, IsPassedIn, Marks, NamesParameter}, Shapes.child_at}
+use Rattle.lft_classes.specs.{declared.shapes.Child.Child, inner.{Needs.{HasNeed, HasNoMarkedIndex, IsPassedIn, Marks, NamesParameter}, Shapes.child_at}}
 use Rattle.lft_classes.specs.Needs.{Times, Widths}
 use Rattle.lft_classes.proofs.{Marking.{marks_as, marks_none, marks_on}, Passing.{inside_times, inside_widths, none_inside, outside_times, outside_widths}}
 use Rattle.lft_whole.specs.declared.tree.Member.TheVariants as member

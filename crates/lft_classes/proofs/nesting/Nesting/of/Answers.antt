@@ -1,7 +1,8 @@
 use Rattle.std.proofs.Common.{◌≡◌, ◌<◌, Some, length, slice_get, refl, sym, ap, subst, ◌∙◌, arith}
 use Rattle.std.proofs.lemmas.Option.{slice_get_read, slice_get_within}
 use Rattle.lft_classes.specs.declared.work.Work.{Work}
-use Rattle.lft_classes.specs.inner.{Built.{AreBuilt, AreInside, AreNoted, cores, first_class}, Needs.IsIndexFree, Shapes.{inside, tables}, Walks.{IsTopologicalOrder, IsList}}
+use Rattle.lft_classes.specs.inner.{Built.{AreBuilt, AreInside, AreNoted, cores, first_class}, Needs.IsIndexFree, Shapes.{inside, tables}}
+use Rattle.lft_classes.specs.inner.Walks.{IsTopologicalOrder, IsList}
 use Rattle.lft_classes.proofs.{Building.below_one, Decided.{decided_next, ready_next}}
 use Rattle.lft_classes.proofs.nesting.Nesting.of.Goals as goal
 

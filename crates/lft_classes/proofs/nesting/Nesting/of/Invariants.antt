@@ -1,6 +1,7 @@
 use Rattle.std.proofs.Common.{◌≡◌, ◌<◌, ℕ, Some, slice_get}
 use Rattle.lft_classes.specs.declared.scopes.ReactorNames.{ReactorNames}
-use Rattle.lft_classes.specs.inner.{Built.{AreNoted, cores}, Makings.AreShapes, Needs.{IsDecided, IsIndexFree}, Shapes.{inside, tables}, Walks.IsTopologicalOrder}
+use Rattle.lft_classes.specs.inner.{Built.{AreNoted, cores}, Makings.AreShapes, Needs.{IsDecided, IsIndexFree}, Shapes.{inside, tables}}
+use Rattle.lft_classes.specs.inner.Walks.{IsTopologicalOrder}
 use Rattle.lft_classes.proofs.nesting.Nesting.of.Given as goal
 
 abbrev pub invariant-loop-place : goal.invariant-loop-place

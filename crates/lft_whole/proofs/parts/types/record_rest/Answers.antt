@@ -1,7 +1,6 @@
 use Rattle.std.proofs.Common.{false, Ok, refl, sym, ◌∙◌, arith}
 use Rattle.std.proofs.lemmas.Result.{err_from_is_err_and}
-use Rattle.lft_whole.specs.{Parts.Parts.record_rest, inner.Parts.Parsing.source}
-use Rattle.lft_whole.proofs.PartsLemmas.Loop.{loop_begins, loop_turns, loop_fails, loop_done}
+use Rattle.lft_whole.{specs.{Parts.Parts.record_rest, inner.Parts.Parsing.source}, proofs.PartsLemmas.Loop.{loop_begins, loop_turns, loop_fails, loop_done}}
 use Rattle.lft_whole.specs.Parts.Parts as Parts
 use Rattle.lft_whole.proofs.parts.types.record_rest.Goals as goal
 
