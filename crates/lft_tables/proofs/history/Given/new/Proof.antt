@@ -1,16 +1,29 @@
 -- `new` makes a value of no bytes, at the empty list.
-use mathlib.Core.{Path.refl, List.{[], ◌∷◌}}
+use mathlib.Core.Path.{refl}
+use mathlib.Core.List.{[], ◌∷◌}
 use seplogic.Ra.Ura.{Ura}
 use mir.Val.{Val, vstruct, vcons, vnil}
 use base.Logic.{SProp}
-use prog.{Memory.Memory, Routine.Routine, Wp.{WpFn, Tables}}
-use types.{Logic.Logic, Kit.{raw, ◌$◌, ◌∵◌, !, qed, keep, join, suffices, done}, Run.{no_more, and_then, returns, enter}, Part.agg}
-use types.ByLocal.{alloc_all, pass_all, free_all, look_at, get, sets}
-use contract.{Monad.Fun, Running.{tables, tables_of}}
+use prog.Memory.{Memory}
+use prog.Routine.{Routine}
+use prog.Wp.{WpFn, Tables}
+use types.Logic.{Logic}
+use contract.Monad.{Fun}
+use contract.Running.{tables, tables_of}
 use sound.WpLaws.{WpFn-mono}
-use denote.{Shadow.pure_i, Steps.nothing, Triple.{Entry.on_entry, Spec.{Meets, triple_of}, Table.entered, Walked.{says, ends_at, walked, walk_Meets}}}
-use Rattle.lft_tables.specs.{declared.history.Given.Given, contracts.history.Given.new.Key.name as #it}
+use types.Kit.{raw, ◌$◌, ◌∵◌, !, qed, keep, join, suffices, done}
+use types.Run.{no_more, and_then, returns, enter}
+use types.Part.{agg}
+use types.ByLocal.{alloc_all, pass_all, free_all, look_at, get, sets}
+use denote.Shadow.{pure_i}
+use denote.Steps.{nothing}
+use denote.Triple.Entry.{on_entry}
+use denote.Triple.Spec.{Meets, triple_of}
+use denote.Triple.Table.{entered}
+use denote.Triple.Walked.{says, ends_at, walked, walk_Meets}
+use Rattle.lft_tables.specs.declared.history.Given.{Given}
 use Rattle.lft_tables.specs.contracts.history.Given as T
+use Rattle.lft_tables.specs.contracts.history.Given.new.Key.{name as #it}
 use Rattle.lft_tables.specs.contracts.history.Given.new as it
 use Rattle.lft_tables.proofs.history.Given.new.Statement as stated
 use Rattle.lft_tables.proofs.history.Given.new.Code as code
