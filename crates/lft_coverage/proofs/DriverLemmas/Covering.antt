@@ -7,13 +7,13 @@ use Rattle.lft_trace.specs.Traces.{Table}
 use Rattle.lft_model.specs.{Plans.PlanParts, declared.breach.Breach.Breach, OneWorker.{LegalRunsAreOneWorker, LegalRunsKeepPrecedence}, Workers.IsWorkers}
 use Rattle.lft_check.specs.Verdicts.{IsVerdict}
 use Rattle.lft_counts.specs.{Cover.CoversRows, declared.cover.Cover.Cover}
-use Rattle.lft_coverage.specs.{inner.{Facts.HasCounts, Driver.Covered.{IsCovered, IsCoveredTable, IsCoverText, verdict_in}}, Facts.fact_lines, Sums.TellsSums}
-use Rattle.lft_coverage.specs.Driver.Covered.{CoverRefusalUnder, IsBehind, IsJudgedCoverUnder, IsTold, IsUnreadTrace}
+use Rattle.lft_coverage.specs.{inner.{Facts.HasCounts, Driver.Covered.{IsCovered, IsCoveredTable, IsCoverText, IsUncovered, verdict_in}}, Facts.fact_lines, Sums.TellsSums}
+use Rattle.lft_coverage.specs.Driver.Covered.{CoverRefusalUnder, IsBehind, IsJudgedCoverUnder, IsTold}
 use Rattle.lft_coverage.specs.Driver.Covered.CoverRefusalUnder.{by_check, by_trace, by_writer}
 use Rattle.lft_coverage.specs.declared.driver.covered.Covered.{Covered, TheVariants.{Accepted, Broken}}
 use Rattle.lft_load.specs.{Faults.table_number, Refusals.is_of_text, Written.AppendsFront, declared.fault.Fault.Fault}
 use Rattle.lft_load.proofs.Loading.{memory_untold, told_at, trace_told}
-use Rattle.lft_driver.specs.{inner.Explained.WriteRefusal, Explained.Writes, Lines.line_of, Refusals.{CheckRefusal, CheckRefusal.by_growth}}
+use Rattle.lft_driver.specs.{inner.Explained.WriteRefusal, Explained.Writes, Lines.line_of, Refusals.{CheckRefusal.by_growth}}
 use Rattle.lft_driver.proofs.Judging.{accepted_runs, refusal_untold, write_untold}
 use Rattle.lft_load.specs.declared.fault.Part.TheVariants as part
 
@@ -74,19 +74,19 @@ module _ (list : Bool) (plan : PlanParts) (trace : List ℕ) (workers : ℕ) (ol
 
     -- it wasn't, for want of memory or by the writer
     pub unwritten : IsWorkers workers → (f : Fault) → WriteRefusal (IsCoverText list plan covered) old new f → CoverRefusalUnder list plan trace workers old new f
-    unwritten lawful f (inl (m, n, k)) = by_check (by_growth (inr (m, n)) lawful)
+    unwritten lawful f (inl (m, n, k)) = by_check x.0 x.1 (by_growth (inr (m, n)) lawful)
     unwritten lawful f (inr (p, n, (text, is, front))) =
         let y = is x.0 x.2 in
         by_writer x.0 (verdict_in covered) y.0 p n x.1 (right_verdict plan x.0 covered x.2) y.2 (subst (λ bytes. AppendsFront old new bytes) y.1 front)
 
   -- the table has no verdict
-  pub refused : (f : Fault) → CheckRefusal workers f ⊎ IsUnreadTrace plan trace f → CoverRefusalUnder list plan trace workers old new f
-  refused f (inl x) = by_check x
+  pub refused : (f : Fault) → IsUncovered plan trace workers f → CoverRefusalUnder list plan trace workers old new f
+  refused f (inl (rows, table, x)) = by_check rows table x
   refused f (inr x) = by_trace x
 
   -- a fault that is of the text
-  pub refused_none : (f : Fault) → CheckRefusal workers f ⊎ IsUnreadTrace plan trace f → is_of_text f.part f.number ≡ true → (rows : List Row) → Table plan.program (records_of trace) rows → ⊥
-  refused_none f (inl x) t rows table = refusal_untold workers f x t
+  pub refused_none : (f : Fault) → IsUncovered plan trace workers f → is_of_text f.part f.number ≡ true → (rows : List Row) → Table plan.program (records_of trace) rows → ⊥
+  refused_none f (inl (own, is, x)) t rows table = refusal_untold workers f x t
   refused_none f (inr x) t rows table = (x.3 (trace_told x.0 (told_at f.part part.Trace f.number (table_number x.0) x.1 x.2 t))).1 rows table
 
 module _ (P : List ℕ → Type 0) (old new : Option (List ℕ)) (f : Fault) where

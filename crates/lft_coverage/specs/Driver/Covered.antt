@@ -40,5 +40,5 @@ IsUnreadTrace plan trace f = (e : TraceFault) × (f.part ≡ part.Trace) × (f.n
 -- a text gets no verdict under a plan: it is no trace table, there is none by so many workers, or the writer failed and took a front of what is right
 pub data CoverRefusalUnder (list : Bool) (plan : PlanParts) (trace : List ℕ) (workers : ℕ) (old new : Option (List ℕ)) (f : Fault) : Type 0 where
   by_trace : IsUnreadTrace plan trace f → CoverRefusalUnder list plan trace workers old new f
-  by_check : CheckRefusal workers f → CoverRefusalUnder list plan trace workers old new f
+  by_check : (rows : List Row) → HasTable plan.program trace rows → CheckRefusal workers f → CoverRefusalUnder list plan trace workers old new f
   by_writer : (rows : List Row) (v : Verdict) (behind : List ℕ) → f.part ≡ part.Write → f.number ≡ 1 → HasTable plan.program trace rows → IsVerdict plan rows v → IsBehind list plan rows v behind → AppendsFront old new (line_of plan.program v ++ behind) → CoverRefusalUnder list plan trace workers old new f

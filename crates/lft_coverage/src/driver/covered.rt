@@ -1,11 +1,11 @@
 //! The verdict on a trace table, and what it exercises where it is accepted.
 
-ghost use Rattle.std.specs.Prelude.{◌≡◌, ◌⊎◌, IfOk, IfErr, OnOk, List, length};
+ghost use Rattle.std.specs.Prelude.{◌≡◌, IfOk, IfErr, OnOk, List, length};
 ghost use Rattle.lft_ir.specs.{Parts.Parts, Steps.Fits.RowsFit, declared.steps.row.Row.Row as TheRow};
 ghost use Rattle.lft_model.specs.Workers.{IsWorkers};
 ghost use Rattle.lft_counts.specs.{inner.Counts.KeepsRows, Cover.CoversRows};
 ghost use Rattle.lft_driver.specs.Refusals.{CheckRefusal};
-ghost use Rattle.lft_coverage.specs.{inner.Driver.Covered.{IsCovered, IsCoveredTable, verdict_in}, Driver.Covered.IsUnreadTrace};
+ghost use Rattle.lft_coverage.specs.inner.Driver.Covered.{IsCovered, IsCoveredTable, IsUncovered, verdict_in};
 
 use crate::driver::front::covers_text;
 use lft_check::{CheckFault, NoWatch, Verdict, judge};
@@ -90,7 +90,7 @@ pub(crate) fn cover_table<R: Threads + Sync>(
 ) -> Result<Covered, Fault>
     ensures covered { IfOk result (IsCoveredTable plan.now trace.now) }
     ensures workers { OnOk result (IsWorkers workers) }
-    ensures refused { IfErr result (λ f. CheckRefusal workers f ⊎ IsUnreadTrace plan.now trace.now f) }
+    ensures refused { IfErr result (IsUncovered plan.now trace.now workers) }
 {
     let program = plan.program();
     // A number out of range is a fault of the checker, and those of the table come before it.
