@@ -7,13 +7,13 @@ use Rattle.lft_trace.specs.Traces.{Table}
 use Rattle.lft_model.specs.{Plans.PlanParts, declared.breach.Breach.Breach, OneWorker.{LegalRunsAreOneWorker, LegalRunsKeepPrecedence}, Workers.IsWorkers}
 use Rattle.lft_check.specs.Verdicts.{IsVerdict}
 use Rattle.lft_counts.specs.{Cover.CoversRows, declared.cover.Cover.Cover}
-use Rattle.lft_coverage.specs.{inner.{Facts.HasCounts, Driver.Covered.{IsCovered, IsCoveredTable, IsCoverText, IsUncovered, verdict_in}}, Facts.fact_lines, Sums.TellsSums}
-use Rattle.lft_coverage.specs.Driver.Covered.{CoverRefusalUnder, IsBehind, IsJudgedCoverUnder, IsTold}
-use Rattle.lft_coverage.specs.Driver.Covered.CoverRefusalUnder.{by_check, by_trace, by_writer}
+use Rattle.lft_coverage.specs.{inner.{Facts.HasCounts, Driver.Covered.{IsCovered, IsCoveredTable, IsCoverText, IsUncovered, verdict_in}}, Facts.fact_lines}
+use Rattle.lft_coverage.specs.Sums.{TellsSums}
+use Rattle.lft_coverage.specs.Driver.Covered.{CoverRefusalUnder, IsBehind, IsJudgedCoverUnder, IsTold, CoverRefusalUnder.{by_check, by_trace, by_writer}}
 use Rattle.lft_coverage.specs.declared.driver.covered.Covered.{Covered, TheVariants.{Accepted, Broken}}
 use Rattle.lft_load.specs.{Faults.table_number, Refusals.is_of_text, Written.AppendsFront, declared.fault.Fault.Fault}
 use Rattle.lft_load.proofs.Loading.{memory_untold, told_at, trace_told}
-use Rattle.lft_driver.specs.{inner.Explained.WriteRefusal, Explained.Writes, Lines.line_of, Refusals.{CheckRefusal.by_growth}}
+use Rattle.lft_driver.specs.{inner.Explained.WriteRefusal, Explained.Writes, Lines.line_of, Refusals.CheckRefusal.by_growth}
 use Rattle.lft_driver.proofs.Judging.{accepted_runs, refusal_untold, write_untold}
 use Rattle.lft_load.specs.declared.fault.Part.TheVariants as part
 
